@@ -1,0 +1,10 @@
+-- A count of faults, which ends at the end of a 64-bit number.
+use Rattle.std.specs.Prelude.{ℕ, ◌+◌, ◌-◌, ◌^◌, ◌<◌, ◌≤◌, ◌⊎◌, min}
+
+-- one more, or the end
+abbrev pub one_more : ℕ → ℕ
+one_more n = min (n + 1) (2 ^ 64 - 1)
+
+-- the count grew, or stands at its end
+abbrev pub Rose : ℕ → ℕ → Type 0
+Rose before now = (before < now) ⊎ (2 ^ 64 - 1 ≤ now)
