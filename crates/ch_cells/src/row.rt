@@ -1,5 +1,7 @@
-ghost use Rattle.std.specs.Prelude.{◌≡◌, IfOk};
-ghost use Rattle.ch_cells.specs.Row.{row_cmp};
+ghost use Rattle.std.specs.Prelude.{◌≡◌, List, IfOk, OnOk, OnErr, IsPermutation, IsSorted};
+ghost use Rattle.std.specs.Cmp.{IsTotalOrder};
+ghost use Rattle.ch_cells.specs.Row.{row_cmp, ascending};
+ghost use Rattle.ch_cells.specs.declared.cell.Cell.{Cell};
 
 use crate::bytes::Bytes;
 use crate::cell::{Cell, copy_cell};
@@ -30,3 +32,19 @@ pub fn copy_row(alloc: Global, row: &Row) -> Result<Row, Memory>
     }
     Ok(copy)
 }
+
+/// Puts the rows in ascending order.
+pub fn sort_rows(rows: &mut Vec<Row>) -> Result<(), Memory>
+    ensures ok { OnOk result (rows.new.items ≡ ascending rows.old.items) }
+    ensures err { OnErr result (rows.new.items ≡ rows.old.items) }
+{
+    rows.sort()?;
+    Ok(())
+}
+
+/// The order of rows is a total one, and `ascending` gives the same rows in this order.
+pub fn rows_are_ordered()
+    ensures order { IsTotalOrder row_cmp }
+    ensures sorted { (rows : List (List Cell)) → IsSorted row_cmp (ascending rows) }
+    ensures same { (rows : List (List Cell)) → IsPermutation rows (ascending rows) }
+{}
