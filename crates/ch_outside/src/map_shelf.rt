@@ -1,5 +1,6 @@
 ghost use Rattle.std.specs.Prelude.{◌≡◌, ◌≤◌, [], Some, map};
 ghost use Rattle.std.specs.Option.{option_copied};
+ghost use Rattle.ch_outside.specs.Faults.{StaysReliable};
 ghost use Rattle.ch_outside.specs.MapShelf.{Answers, after_read, bytes_at, named};
 ghost use Rattle.ch_outside.specs.Shelf.{Reads};
 
@@ -63,8 +64,8 @@ impl Shelf for MapShelf {
     fn read_all(&mut self, alloc: Global, name: &str, limit: usize) -> Result<Bytes, ShelfError>
         ensures same { Some (bytes_at self.new.files) ≡ Some (bytes_at self.old.files) }
         ensures later { self.old.plan.faults ≤ self.new.plan.faults }
-        ensures steady { self.old.plan.fail ≡ [] →
-            (self.new.plan.fail ≡ []) × (self.new.plan.faults ≡ self.old.plan.faults) }
+        ensures steady { StaysReliable (self.old.plan.fail ≡ []) (self.new.plan.fail ≡ [])
+            self.old.plan.faults self.new.plan.faults }
         ensures reads { Reads (Some (bytes_at self.old.files)) name.now limit
             self.old.plan.faults self.new.plan.faults result }
 

@@ -1,4 +1,5 @@
 ghost use Rattle.std.specs.Prelude.{◌≡◌, ◌≤◌, ℕ, Option};
+ghost use Rattle.ch_outside.specs.Faults.{StaysReliable};
 ghost use Rattle.ch_outside.specs.Shelf.{Files, Reads};
 
 use ch_cells::Bytes;
@@ -39,8 +40,8 @@ pub trait Shelf {
     fn read_all(&mut self, alloc: Global, name: &str, limit: usize) -> Result<Bytes, ShelfError>
         ensures same { told self.new ≡ told self.old }
         ensures later { faults self.old ≤ faults self.new }
-        ensures steady { reliable self.old →
-            reliable self.new × (faults self.new ≡ faults self.old) }
+        ensures steady { StaysReliable (reliable self.old) (reliable self.new)
+            (faults self.old) (faults self.new) }
         ensures reads { Reads (told self.old) name.now limit
             (faults self.old) (faults self.new) result };
 }

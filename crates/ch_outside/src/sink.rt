@@ -1,4 +1,5 @@
-ghost use Rattle.std.specs.Prelude.{◌≡◌, ◌≤◌, ℕ, List, Option};
+ghost use Rattle.std.specs.Prelude.{◌≤◌, ℕ, List, Option};
+ghost use Rattle.ch_outside.specs.Faults.{StaysReliable};
 ghost use Rattle.ch_outside.specs.Sink.{Puts};
 
 use thiserror::Error;
@@ -29,8 +30,8 @@ pub trait Sink {
     /// Writes the piece after all that was written before.
     fn put(&mut self, piece: &[u8]) -> Result<(), SinkError>
         ensures later { faults self.old ≤ faults self.new }
-        ensures steady { reliable self.old →
-            reliable self.new × (faults self.new ≡ faults self.old) }
+        ensures steady { StaysReliable (reliable self.old) (reliable self.new)
+            (faults self.old) (faults self.new) }
         ensures puts { Puts (written self.old) (written self.new) piece.now
             (faults self.old) (faults self.new) result };
 }

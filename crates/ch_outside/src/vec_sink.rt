@@ -1,5 +1,6 @@
 ghost use Rattle.std.specs.Prelude.{◌≡◌, ◌≤◌, ◌↔◌, [], Some, IsTrue, IsErrOf};
 ghost use Rattle.ch_outside.specs.FaultPlan.{fails_next};
+ghost use Rattle.ch_outside.specs.Faults.{StaysReliable};
 ghost use Rattle.ch_outside.specs.Sink.{Puts};
 ghost use Rattle.ch_outside.specs.VecSink.{after_put};
 
@@ -55,8 +56,8 @@ impl Sink for VecSink {
 
     fn put(&mut self, piece: &[u8]) -> Result<(), SinkError>
         ensures later { self.old.plan.faults ≤ self.new.plan.faults }
-        ensures steady { self.old.plan.fail ≡ [] →
-            (self.new.plan.fail ≡ []) × (self.new.plan.faults ≡ self.old.plan.faults) }
+        ensures steady { StaysReliable (self.old.plan.fail ≡ []) (self.new.plan.fail ≡ [])
+            self.old.plan.faults self.new.plan.faults }
         ensures puts { Puts (Some self.old.bytes) (Some self.new.bytes) piece.now
             self.old.plan.faults self.new.plan.faults result }
 
