@@ -1,0 +1,3 @@
+pub mod Everywhere
+pub mod Layers
+pub mod Worked

@@ -1,0 +1,4 @@
+pub mod Holds
+pub mod Meaning
+pub mod Names
+pub mod Plain

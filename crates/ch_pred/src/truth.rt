@@ -1,0 +1,117 @@
+ghost use Rattle.std.specs.Prelude.{◌≡◌};
+ghost use Rattle.std.specs.List.{starts_with};
+ghost use Rattle.ch_cells.specs.Cell.{cell_cmp};
+ghost use Rattle.ch_cells.specs.CellRef.{cell_of};
+ghost use Rattle.ch_pred.specs.Plain.{plain_of};
+ghost use Rattle.ch_pred.specs.Holds.{holds_of, passes, arg_cell, literal_cell, is_between, is_within, is_like};
+ghost use Rattle.ch_pred.specs.Names.{Names, NamesArg};
+
+use crate::cells::Cells;
+use crate::pred::{Arg, BoundPred, Cmp, Literal};
+use ch_cells::CellRef;
+use std::cmp::Ordering;
+
+/// Whether the row, which has each column that the predicate names, passes it.
+pub fn holds<R: Cells>(p: &BoundPred, row: &R) -> bool
+    requires { Names (R.has row.now) (plain_of p.now) }
+    ensures { result ≡ holds_of (R.cell_at row.now) (plain_of p.now) }
+{
+    match p {
+        BoundPred::Truth => true,
+        BoundPred::Compare(col, cmp, arg) => {
+            let cell = row.cell(col.side, col.at);
+            let other = arg_of(arg, row);
+            does_pass(order(cell, other), *cmp)
+        }
+        BoundPred::Between(col, low, high) => lies_between(row.cell(col.side, col.at), low, high),
+        BoundPred::Within(col, literals) => is_among(row.cell(col.side, col.at), literals),
+        BoundPred::Like(col, prefix) => begins_with(row.cell(col.side, col.at), prefix.as_slice()),
+        BoundPred::And(members) => {
+            for member in members {
+                if !holds(member, row) {
+                    return false;
+                }
+            }
+            true
+        }
+        BoundPred::Or(members) => {
+            for member in members {
+                if holds(member, row) {
+                    return true;
+                }
+            }
+            false
+        }
+        BoundPred::Not(inner) => !holds(inner, row),
+    }
+}
+
+/// The cell that a column is compared with.
+fn arg_of<'a, R: Cells>(arg: &'a Arg, row: &'a R) -> CellRef<'a>
+    requires { NamesArg (R.has row.now) arg.now }
+    ensures { cell_of result ≡ arg_cell (R.cell_at row.now) arg.now }
+{
+    match arg {
+        Arg::Column(col) => row.cell(col.side, col.at),
+        Arg::Value(literal) => lend_literal(literal),
+    }
+}
+
+fn lend_literal(literal: &Literal) -> CellRef<'_>
+    ensures { cell_of result ≡ literal_cell literal.now }
+{
+    match literal {
+        Literal::Number(n) => CellRef::Number(*n),
+        Literal::Text(text) => CellRef::Text(text.as_slice()),
+    }
+}
+
+fn order(a: CellRef<'_>, b: CellRef<'_>) -> Ordering
+    ensures { result ≡ cell_cmp (cell_of a.entry) (cell_of b.entry) }
+{
+    match (a, b) {
+        (CellRef::Number(x), CellRef::Number(y)) => x.cmp(&y),
+        (CellRef::Number(_), CellRef::Text(_)) => Ordering::Less,
+        (CellRef::Text(_), CellRef::Number(_)) => Ordering::Greater,
+        (CellRef::Text(x), CellRef::Text(y)) => x.cmp(y),
+    }
+}
+
+fn does_pass(order: Ordering, cmp: Cmp) -> bool
+    ensures { result ≡ passes cmp order }
+{
+    match cmp {
+        Cmp::Eq => order.is_eq(),
+        Cmp::Ne => order.is_ne(),
+        Cmp::Lt => order.is_lt(),
+        Cmp::Le => order.is_le(),
+        Cmp::Gt => order.is_gt(),
+        Cmp::Ge => order.is_ge(),
+    }
+}
+
+fn lies_between(cell: CellRef<'_>, low: &Literal, high: &Literal) -> bool
+    ensures { result ≡ is_between (cell_of cell.entry) low.now high.now }
+{
+    order(cell, lend_literal(low)).is_ge() && order(cell, lend_literal(high)).is_le()
+}
+
+fn is_among(cell: CellRef<'_>, literals: &[Literal]) -> bool
+    ensures { result ≡ is_within (cell_of cell.entry) literals.now }
+{
+    for literal in literals {
+        if order(cell, lend_literal(literal)).is_eq() {
+            return true;
+        }
+    }
+    false
+}
+
+fn begins_with(cell: CellRef<'_>, prefix: &[u8]) -> bool
+    ensures { result ≡ is_like (cell_of cell.entry) prefix.now }
+{
+    match cell {
+        CellRef::Number(_) => false,
+        CellRef::Text(text) => text.starts_with(prefix),
+    }
+}
