@@ -1,0 +1,10 @@
+pub mod Sets
+pub mod Packets
+pub mod Sender
+pub mod Receiver
+pub mod Machine
+pub mod Drain
+pub mod Outcome
+pub mod Cover
+pub mod Invariant
+pub mod Rows

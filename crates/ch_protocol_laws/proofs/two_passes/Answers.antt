@@ -1,0 +1,5 @@
+use Rattle.ch_protocol_laws.proofs.Twice.{two_pass_answer}
+use Rattle.ch_protocol_laws.proofs.two_passes.Goals as goal
+
+pub returns : goal.returns
+returns g _ c answer s kind law r stop = two_pass_answer c answer s kind law r stop

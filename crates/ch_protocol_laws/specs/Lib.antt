@@ -1,0 +1,3 @@
+pub mod Always
+pub mod Settled
+pub mod Samples

@@ -1,0 +1,103 @@
+//! What the protocol guarantees: functions with empty bodies, whose contracts are the theorems.
+//!
+//! A state is reached where some list of events, with any losses, repeats, reorderings and restarts, leads to it from the
+//! start.
+#![tactic(auto)]
+
+ghost use Rattle.std.specs.Prelude.{◌≡◌, ◌<◌, ◌≤◌, ℕ, true, false, List};
+ghost use Rattle.ch_protocol.specs.Packets.{Row};
+ghost use Rattle.ch_protocol.specs.Machine.{Policy, Config, State, Event, IsReached, start, step, stopped, passes, workers, can_send};
+ghost use Rattle.ch_protocol.specs.Drain.{IsPast, repeat, take_turn, round, most_rounds, drain};
+ghost use Rattle.ch_protocol.specs.Cover.{CoversOnce, CoversTwice, CoversRowByRow, all_rows, rows_received};
+ghost use Rattle.ch_protocol.specs.Invariant.{IsSound};
+ghost use Rattle.ch_protocol_laws.specs.Always.{AreLinksKnown, IsNoEpochAbove, AreProcessedInOrder, EndBelowExpected, AreExactlyBelowExpected, IsHistoryOrdered, AreVerdictsGiven, IsFirstPassWhole, AreOtherPassesExpected, IsExpectedSent, AreReceivedOnce, IsDownBelowExpected, AreAcksTrue, AreAckedSettled, IsPrunedInFirstEpoch, IsFinLast};
+ghost use Rattle.ch_protocol_laws.specs.Samples.{greatest, below_greatest, keys, but_first_of_key};
+ghost use Rattle.ch_protocol_laws.specs.Settled.{AreAllSettled, AreMissingPruned, AreKeptReceived};
+
+/// Each event leads from a reached state to a reached one, and so does drain.
+pub fn reach()
+    ensures start { (c : Config) → IsReached c (start c) }
+    ensures event { (c : Config) (s : State) (e : Event) → IsReached c s → IsReached c (step c s e) }
+    ensures drain { (c : Config) (s : State) → IsReached c s → IsReached c (drain c s) }
+{}
+
+/// In every reached state the invariant holds, and each event keeps it.
+pub fn invariant()
+    ensures reached { (c : Config) (s : State) → IsReached c s → IsSound c s }
+    ensures start { (c : Config) → IsSound c (start c) }
+    ensures event { (c : Config) (s : State) (e : Event) → IsSound c s → IsSound c (step c s e) }
+{}
+
+/// What holds of the links and of the numbers in every reached state.
+pub fn always_on_links()
+    ensures links_known { (c : Config) (s : State) → IsReached c s → AreLinksKnown c s }
+    ensures no_epoch_above { (c : Config) (s : State) → IsReached c s → IsNoEpochAbove s }
+    ensures down_below_expected { (c : Config) (s : State) → IsReached c s → IsDownBelowExpected s }
+    ensures acks_true { (c : Config) (s : State) → IsReached c s → AreAcksTrue s }
+
+    ensures other_passes_expected { (c : Config) (s : State) → IsReached c s → AreOtherPassesExpected c s }
+    ensures expected_sent { (c : Config) (s : State) → IsReached c s → IsExpectedSent c s }
+    ensures fin_last { (c : Config) (s : State) → IsReached c s → IsFinLast c s }
+{}
+
+/// What holds of the rows that were processed, received and acknowledged in every reached state.
+pub fn always_on_rows()
+    ensures processed_in_order { (c : Config) (s : State) → IsReached c s → AreProcessedInOrder s }
+    ensures end_below_expected { (c : Config) (s : State) → IsReached c s → EndBelowExpected c s }
+    ensures exactly_below_expected { (c : Config) (s : State) → IsReached c s → AreExactlyBelowExpected c s }
+    ensures history_ordered { (c : Config) (s : State) → IsReached c s → IsHistoryOrdered s }
+    ensures verdicts_given { (c : Config) (s : State) → IsReached c s → AreVerdictsGiven c s }
+    ensures first_pass_whole { (c : Config) (s : State) → IsReached c s → IsFirstPassWhole c s }
+    ensures pruned_in_first_epoch { (c : Config) (s : State) → IsReached c s → IsPrunedInFirstEpoch c s }
+
+    ensures received_once { (c : Config) (s : State) → IsReached c s → AreReceivedOnce s }
+    ensures acked_settled { (c : Config) (s : State) → IsReached c s → AreAckedSettled c s }
+{}
+
+/// What became of each row of the last pass, once the run has stopped.
+pub fn settled()
+    ensures all { (c : Config) (s : State) → IsReached c s → stopped c s ≡ true → AreAllSettled c s }
+    ensures missing_pruned { (c : Config) (s : State) → c.two_passes ≡ true → IsReached c s → stopped c s ≡ true → AreMissingPruned c s }
+    ensures kept_received { (c : Config) (s : State) → c.two_passes ≡ true → IsReached c s → stopped c s ≡ true → AreKeptReceived c s }
+{}
+
+/// In a kind with one pass the answer over what the master received is that over all rows, once the run has stopped.
+pub fn one_pass<A>()
+    ensures { (c : Config) (answer : List Row → A) (s : State) → c.two_passes ≡ false → CoversOnce c.prunes answer
+        → IsReached c s → stopped c s ≡ true
+        → answer (rows_received c (passes c) s.received) ≡ answer (all_rows c) }
+{}
+
+/// The same in a kind with two passes.
+pub fn two_passes<A>()
+    ensures { (c : Config) (answer : List Row → A) (s : State) → c.two_passes ≡ true → CoversTwice c.prunes answer
+        → IsReached c s → stopped c s ≡ true
+        → answer (rows_received c (passes c) s.received) ≡ answer (all_rows c) }
+{}
+
+/// A policy whose second pass has no memory of its own rows meets the law of two passes row by row.
+pub fn row_by_row<A>()
+    ensures { (prunes : Policy) (answer : List Row → A) → CoversRowByRow prunes answer → CoversTwice prunes answer }
+{}
+
+/// From every reached state each pass is over after so many rounds, and drain stops the run, where there is a worker and
+/// the window has room for a number.
+pub fn drains()
+    ensures pass { (c : Config) (s : State) → 0 < workers c → 1 ≤ c.window → IsReached c s → IsPast c s.pass (repeat (round c) (most_rounds c) s) }
+    ensures stops { (c : Config) (s : State) → 0 < workers c → 1 ≤ c.window → IsReached c s → stopped c (drain c s) ≡ true }
+
+    // a turn's sends end where a send would put nothing on the link, and a round of a run that has stopped does nothing
+    ensures turn { (c : Config) (s : State) (w : ℕ) → 0 < workers c → 1 ≤ c.window → w < workers c → IsReached c s → can_send c (take_turn c w s) w ≡ false }
+    ensures stopped { (c : Config) (s : State) → stopped c s ≡ true → round c s ≡ s }
+{}
+
+/// Two small policies meet the laws: with one pass the greatest key is that of all rows, and with two passes and a memory
+/// of the second the set of the keys is.
+pub fn samples()
+    ensures once { CoversOnce below_greatest greatest }
+    ensures greatest { (c : Config) (s : State) → c.two_passes ≡ false → c.prunes ≡ below_greatest → IsReached c s → stopped c s ≡ true
+        → greatest (rows_received c (passes c) s.received) ≡ greatest (all_rows c) }
+    ensures twice { CoversTwice but_first_of_key keys }
+    ensures keys { (c : Config) (s : State) → c.two_passes ≡ true → c.prunes ≡ but_first_of_key → IsReached c s → stopped c s ≡ true
+        → keys (rows_received c (passes c) s.received) ≡ keys (all_rows c) }
+{}
