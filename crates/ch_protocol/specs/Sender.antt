@@ -1,6 +1,6 @@
 -- A worker's half of one pass: how many rows it has, the number that it sends next, and the set of the numbers that are
 -- acknowledged to it. The sent numbers are those below the next.
-use Rattle.std.specs.Prelude.{ℕ, suc, ◌-◌, ◌==◌, nat_lt, Bool, true, false, not, ◌&&◌, ◌||◌, List, length, filter, slice_get, Option}
+use Rattle.std.specs.Prelude.{ℕ, suc, ◌-◌, ◌==◌, nat_lt, Bool, true, false, not, ◌&&◌, ◌||◌, List, length, filter, slice_get, Option, Some, None, if◌then◌else◌}
 use Rattle.ch_protocol.specs.Sets.{least, all_below, numbers_from, set_at}
 
 -- the least number that isn't acknowledged, of the numbers of its rows and its Fin
@@ -18,6 +18,10 @@ may_end rows next acked = (next == rows) && all_below acked rows
 -- whether a send puts the next number on the link
 abbrev pub may_send : ℕ → ℕ → ℕ → (ℕ → Bool) → Bool
 may_send rows window next acked = has_room rows window next acked || may_end rows next acked
+
+-- the number that a send puts on the link, if any
+abbrev pub next_number : ℕ → ℕ → ℕ → (ℕ → Bool) → Option ℕ
+next_number rows window next acked = if may_send rows window next acked then Some next else None
 
 -- the sent numbers that aren't acknowledged, ascending
 abbrev pub open_numbers : ℕ → (ℕ → Bool) → List ℕ
