@@ -1,0 +1,5 @@
+pub mod Bools
+pub mod Fronts
+pub mod Lexing
+pub mod QuoteRules
+pub mod ScanRules

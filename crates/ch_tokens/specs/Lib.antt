@@ -1,0 +1,5 @@
+pub mod Byte
+pub mod Lexed
+pub mod Quote
+pub mod Scan
+pub mod Spelling
