@@ -87,3 +87,43 @@ impl Sink for StdSink {
         answer
     }
 }
+
+#[cfg(test)]
+mod tests {
+    use super::*;
+    use std::io;
+
+    /// A stream that takes two bytes at a time, and nothing once its room is used up.
+    #[derive(Drop)]
+    struct Narrow {
+        room: usize,
+    }
+
+    impl Write for Narrow {
+        fn write(&mut self, buf: &[u8]) -> io::Result<usize> {
+            let taken = self.room.min(buf.len()).min(2);
+            self.room -= taken;
+            Ok(taken)
+        }
+
+        fn flush(&mut self) -> io::Result<()> {
+            Ok(())
+        }
+    }
+
+    #[test]
+    fn a_stream_that_takes_nothing_has_failed(rt: HostRuntime) {
+        for (room, answer) in [
+            (5, Ok(())),
+            (4, Err(SinkError::Failed)),
+            (0, Err(SinkError::Failed)),
+        ] {
+            assert_eq!(rt;
+                write_whole(&mut Narrow { room }, b"a,b\n\n"),
+                answer,
+                "room {room}"
+            );
+        }
+        assert_eq!(rt; write_whole(&mut Narrow { room: 0 }, b""), Ok(()));
+    }
+}
