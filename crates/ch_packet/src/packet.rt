@@ -90,8 +90,8 @@ fn write_words(out: &mut Vec<u8>, words: &[i64]) -> io::Result<()>
     Ok(())
 }
 
-#[tactic(auto, unfolding(crate::specs::Spelling::spelling))]
 /// Writes a packet. The bytes take no more memory than they are long.
+#[tactic(auto, unfolding(crate::specs::Spelling::spelling))]
 pub fn write_packet(alloc: Global, packet: &Packet) -> Result<Bytes, Memory>
     requires { IsWritable packet.now }
     ensures { IfOk result (λ bytes. bytes ≡ spelling packet.now) }

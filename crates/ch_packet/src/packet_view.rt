@@ -98,8 +98,8 @@ fn fault_after_kind(kind: PacketKind, bytes: &[u8]) -> Option<PacketError>
     None
 }
 
-#[tactic(auto, unfolding(crate::specs::Fault::fault_of))]
 /// The kind of the bytes, or the first broken field.
+#[tactic(auto, unfolding(crate::specs::Fault::fault_of))]
 fn checked_kind(bytes: &[u8]) -> Result<PacketKind, PacketError>
     ensures { MatchResult result
         (λ kind. (fault_of bytes.now ≡ None) × IsSound kind bytes.now)
