@@ -1,0 +1,11 @@
+pub mod AcceptLemmas
+pub mod ColumnLemmas
+pub mod DraftLemmas
+pub mod FieldLemmas
+pub mod RecordLemmas
+pub mod RefusalLemmas
+pub mod RepeatLemmas
+pub mod TextLemmas
+pub mod ValueLemmas
+pub mod ViewLemmas
+pub mod WordLemmas

@@ -1,0 +1,9 @@
+pub mod Columns
+pub mod Draft
+pub mod Reading
+pub mod Records
+pub mod Refusal
+pub mod Table
+pub mod TableValue
+pub mod Texts
+pub mod Whole
