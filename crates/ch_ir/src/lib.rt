@@ -1,0 +1,17 @@
+//! Profiles, register programs and their meaning.
+#![tactic(auto)]
+
+mod hash;
+mod profile;
+mod program;
+mod read;
+mod rules;
+mod setting;
+#[cfg(test)]
+mod tests;
+
+pub use hash::{hash_more, hash_start, hash_words};
+pub use profile::{Profile, default_profile};
+pub use program::{Access, Array, Binary, Op, Operand, Program, Stage, Test, Update};
+pub use read::{ProfileError, ProfileWhy, read_profile};
+pub use rules::{LimitName, Refused, Sizes, Span};
