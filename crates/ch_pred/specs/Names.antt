@@ -1,7 +1,9 @@
--- A row has each column that a predicate names.
+-- A row has each column that a predicate or an answer names.
 use Rattle.std.specs.Prelude.{ℕ}
 use Rattle.ch_pred.specs.Plain.{Plain, Plains, Truth, Compare, Between, Within, Like, And, Or, Not, nil, cons}
 use Rattle.ch_pred.specs.declared.pred.Arg.{Arg}
+use Rattle.ch_pred.specs.declared.bound.Printed.{Printed}
+use Rattle.ch_pred.specs.declared.bound.Printed.TheVariants as printed
 use Rattle.ch_pred.specs.declared.pred.Arg.TheVariants as arg
 
 abbrev pub NamesArg : (ℕ → ℕ → Type 0) → Arg → Type 0
@@ -22,3 +24,6 @@ abbrev mutual
   pub AllName : (ℕ → ℕ → Type 0) → Plains → Type 0
   AllName has nil = Unit {0}
   AllName has (cons p ps) = Names has p × AllName has ps
+
+abbrev pub NamesPrinted : (ℕ → ℕ → Type 0) → Printed → Type 0
+NamesPrinted has (printed.Column col) = has col.side col.at

@@ -8,6 +8,7 @@ use Rattle.std.proofs.lemmas.Bool.{eqb-true}
 use Rattle.std.proofs.lemmas.List.{length-map}
 use Rattle.std.proofs.lemmas.List.FromFn.{get_or-map-range_with_len, length-map-range_with_len}
 use Rattle.ch_tables.specs.Draft.{IsDraftOf, IsWithin, all_rows, spans_from}
+use Rattle.ch_tables.specs.Reading.{AreShort}
 use Rattle.ch_tables.specs.Records.{records_of}
 use Rattle.ch_tables.specs.Refusal.{body_of, first_refusal, header_of, later_refusal, part_refusal, refusal, repeated, rows_refusal}
 use Rattle.ch_tables.specs.Table.{column_of, kinds_of, table_from, table_of, table_or, table_with}
@@ -97,9 +98,14 @@ spans-within s end (body ∷ bodies) e (suc k) d h =
     let n = length-append body (all_rows bodies) in
     spans-within (s + length body) end bodies (omega arith) k d (omega arith)
 
+-- a short record's names are few
+pub header-short : (records : List (List (List ℕ))) → AreShort records → length (header_of records) < 2 ^ 32
+header-short [] s = omega arith
+header-short (fields ∷ records) s = s.0
+
 pub whole_draft : (room : Room) (draft : Draft) (header : List (List ℕ)) (bodies : List (List (List (List ℕ)))) → IsDraftOf draft header bodies → IsWithin room draft
-    → AreWide (length header) (all_rows bodies) → repeated header ≡ None → length bodies < 2 ^ 32 → IsWhole draft
-whole_draft room draft header bodies d within w r few =
+    → AreWide (length header) (all_rows bodies) → repeated header ≡ None → length bodies < 2 ^ 32 → length header < 2 ^ 32 → IsWhole draft
+whole_draft room draft header bodies d within w r few short =
     let rows = all_rows bodies in
     let raw : draft.columns.items ≡ map (column_of rows) (range_with_len 0 (length header)) = d.columns ∙ with_rows-columns header rows w in
     let full : All (λ column. length column ≡ draft.rows) (map (column_of rows) (range_with_len 0 (length header))) = λ k e h.
@@ -113,6 +119,7 @@ whole_draft room draft header bodies d within w r few =
     let limit = within.few_cells in
     record {
       width = within.width;
+      few_columns = let named = ap length d.named in omega arith;
       full = subst (All (λ column. length column ≡ draft.rows)) (sym raw) full;
       few = omega arith;
       few_parts = let size = ap length d.spans in let count = length-spans_from 0 bodies in omega arith;

@@ -71,6 +71,7 @@ IsColumn texts rows (Places places) = (length places.items ≡ rows) × All (λ 
 -- what a table keeps
 pub record IsTable (t : Inside) : Type 0 where
   pub width : length t.columns.items ≡ length t.header
+  pub few_columns : length t.header < 2 ^ 32
   pub few_parts : length t.spans.items < 2 ^ 32
   pub few_texts : length t.texts < 2 ^ 32
   pub spans : All (λ span. (span.from ≤ span.to) × (span.to ≤ t.rows)) t.spans.items

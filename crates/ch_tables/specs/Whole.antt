@@ -11,6 +11,7 @@ AreWide width rows = AllByRecursion (λ fields. length fields ≡ width) rows
 -- it keeps what a table keeps
 pub record IsWhole (draft : Draft) : Type 0 where
   pub width : length draft.columns.items ≡ length draft.header
+  pub few_columns : length draft.header < 2 ^ 32
   pub full : All (λ column. length column ≡ draft.rows) draft.columns.items
   pub few : sum_by length draft.columns.items < 2 ^ 32
   pub few_parts : length draft.spans.items < 2 ^ 32

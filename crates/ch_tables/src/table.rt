@@ -1,4 +1,4 @@
-ghost use Rattle.std.specs.Prelude.{◌≡◌, ◌<◌, ℕ, List, length, slice_get, slice_index_or, [], Some, None, pos, IfOk};
+ghost use Rattle.std.specs.Prelude.{◌≡◌, ◌<◌, ◌^◌, ℕ, List, length, slice_get, slice_index_or, [], Some, None, pos, IfOk};
 ghost use Rattle.ch_cells.specs.CellRef.{cell_of};
 ghost use Rattle.ch_cells.specs.declared.cell.Cell.TheVariants as cell;
 ghost use Rattle.ch_tables.specs.Draft.{IsDraftOf, all_rows};
@@ -54,6 +54,8 @@ impl Table {
     pub fn header(&self) -> &Header
         ensures value { result.now ≡ self.now.header }
         ensures different { repeated self.now.header ≡ None }
+        ensures few { length self.now.header < 2 ^ 32 }
+        ensures kinds { length self.now.kinds ≡ length self.now.header }
     {
         &self.header
     }

@@ -16,6 +16,7 @@ invariant_of-result c =
     let sum = ap (sum_by length) c.as_slice.ensures.value in
     record {
       width = size ∙ whole.width;
+      few_columns = whole.few_columns;
       few_parts = whole.few_parts;
       few_texts = let few = e.few in omega arith;
       spans = whole.spans;
