@@ -1,2 +1,3 @@
 pub mod Bits
 pub mod Worker
+pub mod Master

@@ -2,6 +2,11 @@
 #![tactic(auto)]
 
 mod bits;
+mod master;
 mod worker;
 
+pub use master::Master;
 pub use worker::Worker;
+
+#[cfg(test)]
+mod tests;
