@@ -1,8 +1,8 @@
 -- A worker's window, as its fields have it.
-use Rattle.std.proofs.Common.{◌≡◌, ℕ, zero, suc, ◌+◌, ◌-◌, ◌<◌, ◌≤◌, Bool, true, false, cond, not, ◌&&◌, ◌||◌, eqb, eq-eqb, eqb-true, nat_lt, ltb-true, lt-ltb, le-ltb, List, [], ◌∷◌, length, filter, slice_get, Option, Some, None, refl, ap, sym, ◌∙◌, subst, arith, inl, inr}
+use Rattle.std.proofs.Common.{◌≡◌, ℕ, zero, suc, ◌+◌, ◌-◌, ◌<◌, ◌≤◌, Bool, true, false, cond, ◌&&◌, ◌||◌, eqb, eq-eqb, eqb-true, nat_lt, ltb-true, lt-ltb, le-ltb, List, [], ◌∷◌, length, filter, slice_get, refl, ap, sym, ◌∙◌, arith, inl, inr}
 use Rattle.std.proofs.lemmas.Bool.{cases_Bool, cases_eq, cases_lt, and_parts, and_from, cond-true, cond-false, ne_eqb, false_from_ne_true}
 use Rattle.ch_protocol.specs.Sets.{least, all_below, numbers_from}
-use Rattle.ch_protocol.specs.Sender.{least_open, has_room, may_end, may_send, open_numbers, acknowledged, cut_to_least}
+use Rattle.ch_protocol.specs.Sender.{least_open, may_send, cut_to_least}
 use Rattle.ch_protocol.proofs.Tests.{least-below, least-at, least-le, all_below-at, all_below-from}
 use Rattle.ch_ends.specs.Bits.{has_bit}
 use Rattle.ch_ends.specs.Worker.{IsTidy}

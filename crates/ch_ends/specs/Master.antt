@@ -2,6 +2,7 @@
 use Rattle.std.specs.Prelude.{◌≡◌, ◌⊎◌, ℕ, ◌+◌, ◌<◌, ◌==◌, Bool, true, false, if◌then◌else◌, List, [], length, map, replicate, slice_index_or, slice_set}
 use Rattle.ch_protocol.specs.Packets.{Name}
 use Rattle.ch_protocol.specs.Receiver.{has}
+use Rattle.ch_packet.specs.declared.packet_view.PacketView.{PacketView}
 use Rattle.ch_ends.specs.Bits.{has_bit}
 
 -- for each worker the bits of its numbers in pass 1 and in pass 2; a bit is set where the number was received
@@ -49,3 +50,7 @@ with_name r x = if x.pass == 1 then record r { first = with_bit r.first x.worker
 pub record HaveSameNumbers (old new : Receipts) : Type 0 where
   pub workers : (pass : ℕ) → length (flows_of new pass) ≡ length (flows_of old pass)
   pub numbers : (pass worker : ℕ) → length (bits_of new pass worker) ≡ length (bits_of old pass worker)
+
+-- the name of a row's or a Fin's packet
+abbrev pub name_of : PacketView → Name
+name_of packet = record { pass = packet.pass; worker = packet.worker; number = packet.number }

@@ -38,4 +38,3 @@ pub record IsTidy (rows window next least : ℕ) (bits : List Bool) : Type 0 whe
   pub room : next ≤ least + window
   pub high : next ≤ rows + 1
   pub ends : next ≡ rows + 1 → rows ≤ least
-

@@ -1,11 +1,13 @@
-ghost use Rattle.std.specs.Prelude.{◌≡◌, ◌<◌, List, [], not, length, slice_index_or, IfOk};
+ghost use Rattle.std.specs.Prelude.{◌≡◌, ◌≢◌, ◌<◌, List, [], not, length, slice_index_or, IfOk};
 ghost use Rattle.ch_protocol.specs.Packets.{Name};
 ghost use Rattle.ch_protocol.specs.Receiver.{collect};
+ghost use Rattle.ch_packet.specs.declared.packet.PacketKind.TheVariants.{Ack};
 ghost use Rattle.ch_ends.specs.Bits.{has_bit};
 ghost use Rattle.ch_ends.specs.Master.{no_bits, with_bit};
 
 use crate::bits::Bits;
 use ch_cells::{Listed, Memory};
+use ch_packet::PacketView;
 use std::alloc::Global;
 use std::marker::Model;
 
@@ -25,7 +27,7 @@ impl Model for Master {
 }
 
 impl Master {
-    ghost use Rattle.ch_ends.specs.Master.{Stands, IsThere, HaveSameNumbers, holds, no_receipts, with_name};
+    ghost use Rattle.ch_ends.specs.Master.{Stands, IsThere, HaveSameNumbers, holds, name_of, no_receipts, with_name};
 
     /// A master for workers with so many rows, and two passes. Takes all the memory that it needs.
     pub fn new(alloc: Global, rows: &Listed<u32>) -> Result<Master, Memory>
@@ -45,18 +47,23 @@ impl Master {
         flows[worker as usize].get(number as usize)
     }
 
-    /// Receives a row or a Fin. Answers whether it is new.
-    pub fn receive(&mut self, pass: u8, worker: u16, number: u32) -> bool
-        requires { IsThere self.old (record { pass = pass; worker = worker; number = number }) }
-        ensures fresh { result ≡ not (holds self.old (record { pass = pass; worker = worker; number = number })) }
-        ensures after { self.new ≡ with_name self.old (record { pass = pass; worker = worker; number = number }) }
-        ensures stands { (received : List Name) → Stands self.old received → Stands self.new (collect received (record { pass = pass; worker = worker; number = number })) }
+    /// Takes a row or a Fin. Answers whether it is new.
+    pub fn take(&mut self, packet: &PacketView) -> bool
+        requires kind { packet.now.kind ≢ Ack }
+        requires there { IsThere self.old (name_of packet.now) }
+        ensures fresh { result ≡ not (holds self.old (name_of packet.now)) }
+        ensures after { self.new ≡ with_name self.old (name_of packet.now) }
+
+        // Where it stood for a list of received names, it stands for the list that the protocol has after the delivery.
+        ensures stands { (received : List Name) → Stands self.old received → Stands self.new (collect received (name_of packet.now)) }
         ensures numbers { HaveSameNumbers self.old self.new }
     {
-        if pass == 1 {
-            set_bit(&mut self.first, worker as usize, number as usize)
+        let worker = packet.worker as usize;
+        let number = packet.number as usize;
+        if packet.pass == 1 {
+            set_bit(&mut self.first, worker, number)
         } else {
-            set_bit(&mut self.second, worker as usize, number as usize)
+            set_bit(&mut self.second, worker, number)
         }
     }
 }

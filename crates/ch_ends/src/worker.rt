@@ -107,7 +107,7 @@ impl Worker {
     pub fn on_ack(&mut self, pass: u8, epoch: u32, number: u32)
         ensures { let counts = is_current self.old.pass self.old.epoch pass epoch && nat_lt number self.old.next in
             IsAt self.new self.old.rows self.old.window self.old.pass self.old.epoch self.old.next
-                (if counts then acknowledge number (acked_of self.old) else acked_of self.old) }
+            (if counts then acknowledge number (acked_of self.old) else acked_of self.old) }
     {
         if pass == self.pass && epoch == self.epoch && number < self.next {
             self.acked.set(number as usize);

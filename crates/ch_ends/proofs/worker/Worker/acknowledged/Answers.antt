@@ -1,4 +1,4 @@
-use Rattle.std.proofs.Common.{◌≡◌, ℕ, ◌<◌, ◌≤◌, ◌+◌, ◌-◌, suc, true, false, List, length, ap, sym, ◌∙◌, arith, refl}
+use Rattle.std.proofs.Common.{◌≡◌, ℕ, ◌<◌, ◌-◌, suc, List, length, ap, sym, ◌∙◌, arith, refl}
 use Rattle.ch_protocol.specs.Sender.{acknowledged}
 use Rattle.ch_ends.specs.Bits.{has_bit}
 use Rattle.ch_ends.specs.Worker.{Progress, acked_of}

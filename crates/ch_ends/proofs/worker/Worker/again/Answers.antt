@@ -1,4 +1,4 @@
-use Rattle.std.proofs.Common.{◌≡◌, ℕ, ◌<◌, ◌+◌, ◌-◌, ◌∷◌, Bool, List, not, slice_get, ap, sym, ◌∙◌, arith}
+use Rattle.std.proofs.Common.{ℕ, ◌<◌, ◌+◌, List, not, slice_get, ap, sym, ◌∙◌, arith}
 use Rattle.ch_ends.specs.Bits.{has_bit}
 use Rattle.ch_ends.proofs.Windows.{passing, passing-from, passing-take, passing-skip, get-later}
 use Rattle.ch_ends.proofs.worker.Worker.again.Goals as goal

@@ -1,4 +1,4 @@
-use Rattle.std.proofs.Common.{◌≡◌, ◌&&◌, ◌<◌, ◌≤◌, eqb, eq-eqb, Bool, true, ap, sym, ◌∙◌, arith}
+use Rattle.std.proofs.Common.{◌≡◌, ◌&&◌, eqb, eq-eqb, Bool, true, ap, sym, ◌∙◌, arith}
 use Rattle.ch_protocol.specs.Sender.{may_send}
 use Rattle.ch_ends.specs.Worker.{Progress, acked_of}
 use Rattle.ch_ends.proofs.Windows.{may_send-row, may_send-fin}

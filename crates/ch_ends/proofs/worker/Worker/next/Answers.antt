@@ -1,4 +1,4 @@
-use Rattle.std.proofs.Common.{◌≡◌, true, ap, sym, ◌∙◌}
+use Rattle.std.proofs.Common.{ap, sym, ◌∙◌}
 use Rattle.ch_protocol.specs.Sender.{may_send}
 use Rattle.ch_ends.specs.Worker.{Progress, acked_of}
 use Rattle.ch_ends.proofs.Windows.{sent_tidy}

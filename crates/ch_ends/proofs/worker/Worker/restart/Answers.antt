@@ -1,4 +1,4 @@
-use Rattle.std.proofs.Common.{◌≡◌, ap, sym, ◌∙◌}
+use Rattle.std.proofs.Common.{ap, sym, ◌∙◌}
 use Rattle.ch_protocol.specs.Sender.{least_open, cut_to_least}
 use Rattle.ch_ends.specs.Worker.{Progress, acked_of}
 use Rattle.ch_ends.proofs.Windows.{tidy_least, cut_is}
