@@ -1,5 +1,5 @@
 -- The cover of a policy of one pass: a row below the greatest key so far is pruned, and the answer is the greatest key.
-use Rattle.std.proofs.Common.{◌≡◌, ℕ, ◌≤◌, max, Bool, true, false, cond, nat_lt, ltb-true, List, [], ◌∷◌, ◌++◌, map, filter, slice_index, All, IsPermutation, refl, ap, sym, ◌∙◌, arith}
+use Rattle.std.proofs.Common.{◌≡◌, ℕ, ◌≤◌, max, Bool, true, false, cond, ltb-true, List, [], ◌∷◌, ◌++◌, map, filter, All, IsPermutation, refl, ap, sym, ◌∙◌, arith}
 use Rattle.std.proofs.lemmas.List.Elements.{All-nil, All-cons, All-head, All-tail}
 use Rattle.std.proofs.lemmas.List.Sorted.{All-permutation, IsPermutation-sym}
 use Rattle.ch_protocol.specs.Packets.{Row}

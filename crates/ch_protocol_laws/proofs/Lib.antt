@@ -19,3 +19,4 @@ pub mod Facts
 pub mod LastPass
 pub mod Greatest
 pub mod FirstOfKey
+pub mod OutcomeLaws

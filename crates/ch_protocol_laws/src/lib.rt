@@ -4,10 +4,12 @@
 //! start.
 #![tactic(auto)]
 
-ghost use Rattle.std.specs.Prelude.{◌≡◌, ◌<◌, ◌≤◌, ℕ, true, false, List};
+ghost use Rattle.std.specs.Prelude.{◌≡◌, ◌≢◌, ◌<◌, ◌≤◌, ℕ, Bool, true, false, List, []};
 ghost use Rattle.ch_protocol.specs.Packets.{Row};
 ghost use Rattle.ch_protocol.specs.Machine.{Policy, Config, State, Event, IsReached, start, step, stopped, passes, workers, can_send};
 ghost use Rattle.ch_protocol.specs.Drain.{IsPast, repeat, take_turn, round, most_rounds, drain};
+ghost use Rattle.ch_protocol.specs.Outcome.{outcome, report, after_schedule};
+ghost use Rattle.ch_protocol.specs.Outcome.Outcome.{Done};
 ghost use Rattle.ch_protocol.specs.Cover.{CoversOnce, CoversTwice, CoversRowByRow, all_rows, rows_received};
 ghost use Rattle.ch_protocol.specs.Invariant.{IsSound};
 ghost use Rattle.ch_protocol_laws.specs.Always.{AreLinksKnown, IsNoEpochAbove, AreProcessedInOrder, EndBelowExpected, AreExactlyBelowExpected, IsHistoryOrdered, AreVerdictsGiven, IsFirstPassWhole, AreOtherPassesExpected, IsExpectedSent, AreReceivedOnce, IsDownBelowExpected, AreAcksTrue, AreAckedSettled, IsPrunedInFirstEpoch, IsFinLast};
@@ -89,6 +91,15 @@ pub fn drains()
     // a turn's sends end where a send would put nothing on the link, and a round of a run that has stopped does nothing
     ensures turn { (c : Config) (s : State) (w : ℕ) → 0 < workers c → 1 ≤ c.window → w < workers c → IsReached c s → can_send c (take_turn c w s) w ≡ false }
     ensures stopped { (c : Config) (s : State) → stopped c s ≡ true → round c s ≡ s }
+{}
+
+/// A schedule leads to a reached state. One that ends in drain is done, and a run that hasn't stopped names a worker that
+/// is open, where there is a worker and the window has room for a number.
+pub fn outcomes()
+    ensures reached { (c : Config) (events : List Event) (drains : Bool) → IsReached c (after_schedule c events drains) }
+    ensures done { (c : Config) (events : List Event) → 0 < workers c → 1 ≤ c.window
+        → outcome c (after_schedule c events true) ≡ Done (after_schedule c events true).counts }
+    ensures named { (c : Config) (s : State) → 0 < workers c → 1 ≤ c.window → IsReached c s → stopped c s ≡ false → report c s ≢ [] }
 {}
 
 /// Two small policies meet the laws: with one pass the greatest key is that of all rows, and with two passes and a memory
