@@ -2,9 +2,10 @@
 use Rattle.std.proofs.Common.{◌≡◌, ℕ, zero, suc, ◌+◌, ◌-◌, ◌*◌, ◌<◌, ◌≤◌, Bool, true, false, cond, not, ◌&&◌, eqb, List, [], ◌∷◌, ◌++◌, length, map, sum_by, slice_index_or, refl, ap, sym, ◌∙◌, subst, arith, inl, inr, ◌⊎◌, eqb-true, eq-eqb}
 use Rattle.std.proofs.lemmas.List.Sums.{sum_by-cons}
 use Rattle.std.proofs.lemmas.Bool.{and_from}
+use Rattle.ch_protocol.specs.Sender.{least_open}
 use Rattle.ch_protocol.specs.Machine.{Config, State, Event, size, workers, passes, confirmed, stopped, run, start, tables}
 use Rattle.ch_protocol.specs.Drain.{IsPast, repeat, round, most_rounds, drain}
-use Rattle.ch_protocol.proofs.Tests.{all_below-at, all_below-from}
+use Rattle.ch_protocol.proofs.Tests.{least-below, all_below-at, all_below-from}
 use Rattle.ch_protocol_laws.proofs.Links.{start_sound}
 use Rattle.ch_protocol_laws.proofs.Ways.{IsTracked, IsReady, step_ready}
 use Rattle.ch_protocol_laws.proofs.Rounds.{round_adds}
@@ -20,13 +21,13 @@ repeat-add f zero b s = let e : zero + b ≡ b = omega arith in ap (λ n. repeat
 repeat-add f (suc a) b s = let e : suc a + b ≡ suc (a + b) = omega arith in ap (λ n. repeat f n s) e ∙ repeat-add f a b (f s)
 
 module _ (c : Config) (some : 0 < workers c) (room : 1 ≤ c.window) where
-  rounds_add : (p e n k : ℕ) (s : State) → IsReady c s → IsPast c p s ⊎ IsTracked c p e k 0 s → IsReady c (repeat (round c) n s) × (IsPast c p (repeat (round c) n s) ⊎ IsTracked c p e (k + n) 0 (repeat (round c) n s))
+  rounds_add : (p e n k : ℕ) (s : State) → IsReady c s → IsPast c p s ⊎ IsTracked c p e (λ w. k) 0 s → IsReady c (repeat (round c) n s) × (IsPast c p (repeat (round c) n s) ⊎ IsTracked c p e (λ w. k + n) 0 (repeat (round c) n s))
   unfolding repeat
-  rounds_add p e zero k s r live = (r, elim live [ inl past ↦ inl past | inr t ↦ inr (subst (λ (m : ℕ). IsTracked c p e m 0 s) (omega arith) t) ])
+  rounds_add p e zero k s r live = (r, elim live [ inl past ↦ inl past | inr t ↦ inr (subst (λ (m : ℕ). IsTracked c p e (λ w. m) 0 s) (omega arith) t) ])
   rounds_add p e (suc n) k s r live =
-      let a = round_adds c some room p e k s r live in
+      let a = round_adds c some room p e (λ w. k) s r live in
       let z = rounds_add p e n (suc k) (round c s) a.0 a.1 in
-      (z.0, elim z.1 [ inl past ↦ inl past | inr t ↦ inr (subst (λ (m : ℕ). IsTracked c p e m 0 (repeat (round c) n (round c s))) (omega arith) t) ])
+      (z.0, elim z.1 [ inl past ↦ inl past | inr t ↦ inr (subst (λ (m : ℕ). IsTracked c p e (λ w. m) 0 (repeat (round c) n (round c s))) (omega arith) t) ])
 
   -- a run that has stopped stays so
   stop_stays : (n : ℕ) (s : State) → IsReady c s → stopped c s ≡ true → IsReady c (repeat (round c) n s) × (stopped c (repeat (round c) n s) ≡ true)
@@ -74,3 +75,14 @@ module _ (c : Config) (some : 0 < workers c) (room : 1 ≤ c.window) where
 
   pub drains_after : (s : State) → IsReady c s → stopped c (drain c s) ≡ true
   drains_after s r = drains_from (passes c) s r (omega (arith, r.sound.in_range))
+
+  -- a round acknowledges each worker's least open number, unless the pass is over
+  pub least_adds : (s : State) → IsReady c s
+      → IsPast c s.pass (round c s) ⊎ ((w : ℕ) → w < workers c → least_open (size c w) (s.acked w) ≤ size c w → (round c s).acked w (least_open (size c w) (s.acked w)) ≡ true)
+  least_adds s r =
+      let z = round_adds c some room s.pass s.epoch (λ w. least_open (size c w) (s.acked w)) s r
+      (inr (record { pass = refl; epoch = refl; below = λ w j h lt le. least-below (s.acked w) (suc (size c w)) j lt; way = λ w lt h le. absurd (omega arith) })) in
+      elim z.1 [
+        | inl past ↦ inl past
+        | inr t ↦ inr (λ w h le. t.below w (least_open (size c w) (s.acked w)) h (omega arith) le)
+      ]

@@ -86,4 +86,4 @@ module _ (c : Config) (some : 0 < workers c) (w : ℕ) (in' : w < workers c) whe
 
 pub turn_ends : (c : Config) (some : 0 < workers c) (room : 1 ≤ c.window) (w : ℕ) → w < workers c → (s : State) → IsReady c s → can_send c (take_turn c w s) w ≡ false
 turn_ends c some room w in' s r = sends_end c some w in' (suc (size c w)) (resends c s w)
-    (run_ready c some room 0 0 0 (map (λ place. Resend w place) (numbers_from 0 (length (open_numbers (s.next w) (s.acked w))))) s r) (omega arith)
+    (run_ready c some room 0 0 (λ v. 0) (map (λ place. Resend w place) (numbers_from 0 (length (open_numbers (s.next w) (s.acked w))))) s r) (omega arith)

@@ -49,7 +49,7 @@ meet_up c s x = either_way (λ (t : State). t.up ≡ s.up) (nat_lt (s.expected x
 learn_links : (s : State) (a : Ack) → ((learn s a).up ≡ s.up) × ((learn s a).down ≡ s.down) × ((learn s a).back ≡ s.back)
 learn_links s a = either_way (λ (t : State). (t.up ≡ s.up) × (t.down ≡ s.down) × (t.back ≡ s.back)) (eqb a.name.pass s.pass && eqb a.epoch s.epoch) _ _ (λ t. (refl, refl, refl)) (λ f. (refl, refl, refl))
 
-module _ (c : Config) (some : 0 < workers c) (room : 1 ≤ c.window) (p e k : ℕ) where
+module _ (c : Config) (some : 0 < workers c) (room : 1 ≤ c.window) (p e : ℕ) (k : ℕ → ℕ) where
   abbrev Tracked : ℕ → State → Type 0
   Tracked b s = IsTracked c p e k b s
 
@@ -107,11 +107,11 @@ module _ (c : Config) (some : 0 < workers c) (room : 1 ≤ c.window) (p e k : �
       repeat_keeps c (IsReady c) BackLeft (λ t. step c t (Back 0 Take)) (ready (Back 0 Take)) back_step (length s2.back) s2 two.0 (elim two.1 [ inl x ↦ inl x | inr x ↦ inr (x.0, x.1, none_left s2.down x.2, refl) ])
 
   -- where nothing is on a link any more, what was on its way is acknowledged
-  arrived : (s : State) (w : ℕ) → s.up ≡ [] → s.down ≡ [] → s.back ≡ [] → IsOnWay s w k → s.acked w k ≡ true
+  arrived : (s : State) (w : ℕ) → s.up ≡ [] → s.down ≡ [] → s.back ≡ [] → IsOnWay s w (k w) → s.acked w (k w) ≡ true
   arrived s w u d b (Acked h) = h
-  arrived s w u d b (OnUp x h) = absurd (subst (λ (l : List Packet). In (record { name = is_at s.pass w k; epoch = x }) l) u h)
-  arrived s w u d b (OnDown h) = absurd (subst (λ (l : List Packet). In (record { name = is_at s.pass w k; epoch = s.epoch }) l) d h)
-  arrived s w u d b (OnBack x h) = absurd (subst (λ (l : List Ack). In (record { origin = x; name = is_at s.pass w k; epoch = s.epoch }) l) b h)
+  arrived s w u d b (OnUp x h) = absurd (subst (λ (l : List Packet). In (record { name = is_at s.pass w (k w); epoch = x }) l) u h)
+  arrived s w u d b (OnDown h) = absurd (subst (λ (l : List Packet). In (record { name = is_at s.pass w (k w); epoch = s.epoch }) l) d h)
+  arrived s w u d b (OnBack x h) = absurd (subst (λ (l : List Ack). In (record { origin = x; name = is_at s.pass w (k w); epoch = s.epoch }) l) b h)
 
   -- the turns
 
@@ -146,18 +146,18 @@ module _ (c : Config) (some : 0 < workers c) (room : 1 ≤ c.window) (p e k : �
   turn_keeps b w s live = sends_keep b w (suc (size c w)) (resends c s w) (resends_keep b w (numbers_from 0 (length (open_numbers (s.next w) (s.acked w)))) s live)
 
   -- one more worker whose number is on its way
-  tracked_more : (b : ℕ) (s : State) → Tracked b s → (b < workers c → k ≤ size c b → IsOnWay s b k) → Tracked (suc b) s
+  tracked_more : (b : ℕ) (s : State) → Tracked b s → (b < workers c → (k b) ≤ size c b → IsOnWay s b (k b)) → Tracked (suc b) s
   tracked_more b s r h = record {
     pass = r.pass;
     epoch = r.epoch;
     below = r.below;
     way = λ w lt in' le. elim (cases_eq w b) [
-      | inl q ↦ subst (λ (v : ℕ). IsOnWay s v k) (sym q) (h (omega (arith, q)) (omega (arith, ap (size c) q)))
+      | inl q ↦ subst (λ (v : ℕ). IsOnWay s v (k v)) (sym q) (h (omega (arith, q)) (omega (arith, ap (size c) q, ap k q)))
       | inr ne ↦ r.way w (omega arith) in' le
     ];
   }
 
-  module _ (b : ℕ) (in' : b < workers c) (le : k ≤ size c b) (next : ℕ → ℕ) (acked : ℕ → ℕ → Bool) where
+  module _ (b : ℕ) (in' : b < workers c) (le : (k b) ≤ size c b) (next : ℕ → ℕ) (acked : ℕ → ℕ → Bool) where
     -- nothing but the links upward has changed
     abbrev Quiet : State → Type 0
     Quiet s = Tracked b s × (s.next ≡ next) × (s.acked ≡ acked)
@@ -176,7 +176,7 @@ module _ (c : Config) (some : 0 < workers c) (room : 1 ≤ c.window) (p e k : �
     resends_quiet (place ∷ places) s q = resends_quiet places (step c s (Resend b place))
         (step_keeps c p Quiet Quiet s (Resend b place) (λ t h. (tracked_counts c p e k b t h.0, h.1, h.2)) (λ t h. h.0.pass) (grows_resend c s b place).pass (resend_quiet place s) q)
 
-    resends_put : (at : ℕ) (places : List ℕ) (s : State) → slice_get (filter (λ j. not (acked b j)) (numbers_from 0 (next b))) at ≡ Some k → In at places → IsPast c p s ⊎ Quiet s → Live (suc b) (run c (map (λ place. Resend b place) places) s)
+    resends_put : (at : ℕ) (places : List ℕ) (s : State) → slice_get (filter (λ j. not (acked b j)) (numbers_from 0 (next b))) at ≡ Some (k b) → In at places → IsPast c p s ⊎ Quiet s → Live (suc b) (run c (map (λ place. Resend b place) places) s)
     resends_put at [] s g h q = absurd h
     resends_put at (place ∷ places) s g (inr h) q = resends_put at places (step c s (Resend b place)) g h
         (step_keeps c p Quiet Quiet s (Resend b place) (λ t h. (tracked_counts c p e k b t h.0, h.1, h.2)) (λ t h. h.0.pass) (grows_resend c s b place).pass (resend_quiet place s) q)
@@ -185,59 +185,59 @@ module _ (c : Config) (some : 0 < workers c) (room : 1 ≤ c.window) (p e k : �
       where
         put : Quiet s → Tracked (suc b) (resend c s b place)
         put q =
-            let found : slice_get (open_numbers (s.next b) (s.acked b)) place ≡ Some k = (λ j. slice_get (filter (λ n. not (q.2 j b n)) (numbers_from 0 (q.1 j b))) ((sym same) j)) ∙ g in
-            let is : resend c s b place ≡ go_up s b k = cond-true (nat_lt b (workers c)) (resend_this s b (slice_get (open_numbers (s.next b) (s.acked b)) place)) s (lt-ltb b (workers c) in') ∙ ap (resend_this s b) found in
-            subst (Tracked (suc b)) (sym is) (tracked_more b (go_up s b k) (tracked_grows c p e k b s (go_up s b k) (grows_up s b k) q.0) (λ _ _. OnUp s.epoch (In-last (record { name = is_at s.pass b k; epoch = s.epoch }) s.up)))
+            let found : slice_get (open_numbers (s.next b) (s.acked b)) place ≡ Some (k b) = (λ j. slice_get (filter (λ n. not (q.2 j b n)) (numbers_from 0 (q.1 j b))) ((sym same) j)) ∙ g in
+            let is : resend c s b place ≡ go_up s b (k b) = cond-true (nat_lt b (workers c)) (resend_this s b (slice_get (open_numbers (s.next b) (s.acked b)) place)) s (lt-ltb b (workers c) in') ∙ ap (resend_this s b) found in
+            subst (Tracked (suc b)) (sym is) (tracked_more b (go_up s b (k b)) (tracked_grows c p e k b s (go_up s b (k b)) (grows_up s b (k b)) q.0) (λ _ _. OnUp s.epoch (In-last (record { name = is_at s.pass b (k b); epoch = s.epoch }) s.up)))
 
     -- a number that was never sent is sent now
-    send_puts : (fuel : ℕ) (s : State) → next b ≡ k → IsPast c p s ⊎ Quiet s → Live (suc b) (sends c b (suc fuel) s)
+    send_puts : (fuel : ℕ) (s : State) → next b ≡ (k b) → IsPast c p s ⊎ Quiet s → Live (suc b) (sends c b (suc fuel) s)
     unfolding sends
     send_puts fuel s first (inl past) = sends_keep (suc b) b (suc fuel) s (inl past)
     send_puts fuel s first (inr q) =
-        let now : s.next b ≡ k = (λ j. q.1 j b) ∙ first in
+        let now : s.next b ≡ (k b) = (λ j. q.1 j b) ∙ first in
         subst (Live (suc b)) (sym (cond-true (can_send c s b) (sends c b fuel (step c s (Send b))) s (may now)))
         (sends_keep (suc b) b fuel (step c s (Send b))
         (step_keeps c p Quiet (Tracked (suc b)) s (Send b) (tracked_counts c p e k (suc b)) (λ t h. h.pass) (grows_send c s b).pass (put now) (inr q)))
       where
-        gap : s.next b ≡ k → s.next b ≤ least_open (size c b) (s.acked b)
-        gap now = elim (cases_lt (least_open (size c b) (s.acked b)) k) [
+        gap : s.next b ≡ (k b) → s.next b ≤ least_open (size c b) (s.acked b)
+        gap now = elim (cases_lt (least_open (size c b) (s.acked b)) (k b)) [
           | inl lt ↦ absurd (cc (least-at (s.acked b) (suc (size c b)) (omega arith), q.0.below b (least_open (size c b) (s.acked b)) in' lt (omega arith)))
           | inr ge ↦ omega (arith, now)
         ]
 
-        full : s.next b ≡ k → k ≡ size c b → may_end (size c b) (s.next b) (s.acked b) ≡ true
+        full : s.next b ≡ (k b) → (k b) ≡ size c b → may_end (size c b) (s.next b) (s.acked b) ≡ true
         full now end = and_from (eqb (s.next b) (size c b)) (all_below (s.acked b) (size c b)) (eq-eqb (s.next b) (size c b) (now ∙ end)) (all_below-from (s.acked b) (size c b) (λ j lt. q.0.below b j in' (omega (arith, end)) (omega arith)))
 
-        has : s.next b ≡ k → (k ≡ size c b → ⊥) → has_room (size c b) c.window (s.next b) (s.acked b) ≡ true
+        has : s.next b ≡ (k b) → ((k b) ≡ size c b → ⊥) → has_room (size c b) c.window (s.next b) (s.acked b) ≡ true
         has now ne = and_from (nat_lt (s.next b) (size c b)) (nat_lt (s.next b - least_open (size c b) (s.acked b)) c.window) (lt-ltb (s.next b) (size c b) (omega (arith, now))) (lt-ltb (s.next b - least_open (size c b) (s.acked b)) c.window (omega (arith, gap now)))
 
-        may : s.next b ≡ k → can_send c s b ≡ true
-        may now = elim (cases_eq k (size c b)) [
+        may : s.next b ≡ (k b) → can_send c s b ≡ true
+        may now = elim (cases_eq (k b) (size c b)) [
           | inl end ↦ or_right (has_room (size c b) c.window (s.next b) (s.acked b)) (may_end (size c b) (s.next b) (s.acked b)) (full now end)
           | inr ne ↦ or_left (has_room (size c b) c.window (s.next b) (s.acked b)) (may_end (size c b) (s.next b) (s.acked b)) (has now ne)
         ]
 
-        sent : s.next b ≡ k → Quiet s → Tracked (suc b) (send_next s b)
+        sent : s.next b ≡ (k b) → Quiet s → Tracked (suc b) (send_next s b)
         sent now q = tracked_more b (send_next s b)
             (tracked_grows c p e k b s (send_next s b) (record { pass = refl; epoch = refl; acked = λ w k h. h; up = λ m h. In-left m s.up _ h; down = λ m h. h; back = λ a h. h }) q.0)
-            (λ _ _. OnUp s.epoch (subst (λ (n : ℕ). In (record { name = is_at s.pass b k; epoch = s.epoch }) (s.up ++ record { name = is_at s.pass b n; epoch = s.epoch } ∷ [])) (sym now) (In-last (record { name = is_at s.pass b k; epoch = s.epoch }) s.up)))
+            (λ _ _. OnUp s.epoch (subst (λ (n : ℕ). In (record { name = is_at s.pass b (k b); epoch = s.epoch }) (s.up ++ record { name = is_at s.pass b n; epoch = s.epoch } ∷ [])) (sym now) (In-last (record { name = is_at s.pass b (k b); epoch = s.epoch }) s.up)))
 
-        put : s.next b ≡ k → Quiet s → Tracked (suc b) (send c s b)
+        put : s.next b ≡ (k b) → Quiet s → Tracked (suc b) (send c s b)
         put now q = subst (Tracked (suc b)) (sym (cond-true (nat_lt b (workers c) && can_send c s b) (send_next s b) s (and_from (nat_lt b (workers c)) (can_send c s b) (lt-ltb b (workers c) in') (may now)))) (sent now q)
 
   -- a worker's turn puts its least open number on its way
   turn_adds : (b : ℕ) (s : State) → IsReady c s → b < workers c → Live b s → Live (suc b) (take_turn c b s)
   turn_adds b s r in' (inl past) = turn_keeps (suc b) b s (inl past)
-  turn_adds b s r in' (inr t) = elim (cases_lt (size c b) k) [
+  turn_adds b s r in' (inr t) = elim (cases_lt (size c b) (k b)) [
     | inl lt ↦ turn_keeps (suc b) b s (inr (tracked_more b s t (λ _ le. absurd (omega arith))))
-    | inr le ↦ elim (cases_Bool (s.acked b k)) [
+    | inr le ↦ elim (cases_Bool (s.acked b (k b))) [
       | inl a ↦ turn_keeps (suc b) b s (inr (tracked_more b s t (λ _ _. Acked a)))
       | inr open' ↦
-          let high : k ≤ s.next b = omega (arith, at_least c s r.sound b k in' le (λ j lt l. t.below b j in' lt l), r.sound.numbered.sent b in') in
-          elim (cases_eq (s.next b) k) [
+          let high : (k b) ≤ s.next b = omega (arith, at_least c s r.sound b (k b) in' le (λ j lt l. t.below b j in' lt l), r.sound.numbered.sent b in') in
+          elim (cases_eq (s.next b) (k b)) [
             | inl now ↦ send_puts b in' le s.next s.acked (size c b) (resends c s b) now (resends_quiet b in' le s.next s.acked (numbers_from 0 (length (open_numbers (s.next b) (s.acked b)))) s (inr (t, refl, refl)))
             | inr ne ↦
-                let at = In-place k (open_numbers (s.next b) (s.acked b)) (In-filter_from (λ j. not (s.acked b j)) k (numbers_from 0 (s.next b)) (In-numbers_from k 0 (s.next b) (omega arith) (omega arith)) (ap not open')) in
+                let at = In-place (k b) (open_numbers (s.next b) (s.acked b)) (In-filter_from (λ j. not (s.acked b j)) (k b) (numbers_from 0 (s.next b)) (In-numbers_from (k b) 0 (s.next b) (omega arith) (omega arith)) (ap not open')) in
                 sends_keep (suc b) b (suc (size c b)) (resends c s b)
                 (resends_put b in' le s.next s.acked at.0 (numbers_from 0 (length (open_numbers (s.next b) (s.acked b)))) s at.1 (In-numbers_from at.0 0 (length (open_numbers (s.next b) (s.acked b))) (omega arith) (omega (arith, at.2))) (inr (t, refl, refl)))
           ]
@@ -249,8 +249,8 @@ module _ (c : Config) (some : 0 < workers c) (room : 1 ≤ c.window) (p e k : �
   turns_all zero b s r sum live = (r, subst (λ (n : ℕ). Live n s) (omega (arith, sum)) live)
   turns_all (suc count) b s r sum live = turns_all count (suc b) (take_turn c b s) (turn_ready b s r) (omega (arith, sum)) (turn_adds b s r (omega (arith, sum)) live)
 
-  -- a round acknowledges k, where each smaller number is acknowledged
-  pub round_adds : (s : State) → IsReady c s → Live 0 s → IsReady c (round c s) × (IsPast c p (round c s) ⊎ IsTracked c p e (suc k) 0 (round c s))
+  -- a round acknowledges k of each worker, where each smaller number is acknowledged
+  pub round_adds : (s : State) → IsReady c s → Live 0 s → IsReady c (round c s) × (IsPast c p (round c s) ⊎ IsTracked c p e (λ w. suc (k w)) 0 (round c s))
   unfolding round
   round_adds s r live =
       let a = turns_all (workers c) 0 s r (omega arith) live in
@@ -261,7 +261,7 @@ module _ (c : Config) (some : 0 < workers c) (room : 1 ≤ c.window) (p e k : �
           | inr q ↦ inr (record {
             pass = q.0.pass;
             epoch = q.0.epoch;
-            below = λ w j h lt le. elim (cases_eq j k) [
+            below = λ w j h lt le. elim (cases_eq j (k w)) [
               | inl same ↦ subst (λ (n : ℕ). (empty_back c (empty_down c (empty_up c (turns c 0 (workers c) s)))).acked w n ≡ true) (sym same)
                   (arrived _ w q.1 q.2 (none_left _ q.3) (q.0.way w h h (omega (arith, same))))
               | inr ne ↦ q.0.below w j h (omega arith) le

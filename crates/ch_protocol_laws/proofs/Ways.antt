@@ -111,19 +111,20 @@ first_or_rest x [] h = absurd h
 first_or_rest x (y ∷ xs) (inl e) = inl (ap Some (sym e))
 first_or_rest x (y ∷ xs) (inr h) = inr h
 
--- The present pass and epoch are p and e. Each number below k is acknowledged, and k itself is on its way for each worker below b
-pub record IsTracked (c : Config) (p e k b : ℕ) (s : State) : Type 0 where
+-- The present pass and epoch are p and e. Of each worker each number below its k is acknowledged, and k itself is on its way for
+-- each worker below b
+pub record IsTracked (c : Config) (p e : ℕ) (k : ℕ → ℕ) (b : ℕ) (s : State) : Type 0 where
   pub pass : s.pass ≡ p
   pub epoch : s.epoch ≡ e
-  pub below : (w j : ℕ) → w < workers c → j < k → j ≤ size c w → s.acked w j ≡ true
-  pub way : (w : ℕ) → w < b → w < workers c → k ≤ size c w → IsOnWay s w k
+  pub below : (w j : ℕ) → w < workers c → j < k w → j ≤ size c w → s.acked w j ≡ true
+  pub way : (w : ℕ) → w < b → w < workers c → k w ≤ size c w → IsOnWay s w (k w)
 
-pub tracked_grows : (c : Config) (p e k b : ℕ) (s t : State) → Grows s t → IsTracked c p e k b s → IsTracked c p e k b t
+pub tracked_grows : (c : Config) (p e : ℕ) (k : ℕ → ℕ) (b : ℕ) (s t : State) → Grows s t → IsTracked c p e k b s → IsTracked c p e k b t
 tracked_grows c p e k b s t g r = record {
   pass = g.pass ∙ r.pass;
   epoch = g.epoch ∙ r.epoch;
   below = λ w j h lt le. g.acked w j (r.below w j h lt le);
-  way = λ w lt h le. way_grows s t w k g (r.way w lt h le);
+  way = λ w lt h le. way_grows s t w (k w) g (r.way w lt h le);
 }
 
 -- what is expected is at least the first number that isn't acknowledged
@@ -157,7 +158,7 @@ step_keeps c p Q R s ev counts at same keeps (inl (inl lt)) = step_cases c (λ t
 step_keeps c p Q R s ev counts at same keeps (inl (inr st)) = step_cases c (λ t. IsPast c p t ⊎ R t) s ev (λ t. inl (inr t)) (λ f t l. absurd (cc (st, f))) (λ f g. absurd (cc (st, f)))
 step_keeps c p Q R s ev counts at same keeps (inr q) = step_cases c (λ t. IsPast c p t ⊎ R t) s ev (λ t. inl (inr t)) (λ f t l. inl (inl (omega (arith, at (effect c s ev) (keeps q))))) (λ f g. inr (counts (effect c s ev) (keeps q)))
 
-pub tracked_counts : (c : Config) (p e k b : ℕ) (t : State) → IsTracked c p e k b t → IsTracked c p e k b (count_step t)
+pub tracked_counts : (c : Config) (p e : ℕ) (k : ℕ → ℕ) (b : ℕ) (t : State) → IsTracked c p e k b t → IsTracked c p e k b (count_step t)
 tracked_counts c p e k b t r = tracked_grows c p e k b t (count_step t) (count_grows t) r
 
 -- where a pass is confirmed it is the last
@@ -177,7 +178,7 @@ step_ready c s ev some r = record {
 }
 
 -- each event that takes the first of a link, on the numbers that are on their way
-module _ (c : Config) (p e k b : ℕ) (s : State) (i : IsSound c s) where
+module _ (c : Config) (p e : ℕ) (k : ℕ → ℕ) (b : ℕ) (s : State) (i : IsSound c s) where
   pub up_pass : (o : Option Packet) → (meet_at c s 0 Take o).pass ≡ s.pass
   up_pass None = refl
   up_pass (Some m) = (grows_meet c (record s { up = remove s.up 0 }) m.name).pass
@@ -194,17 +195,17 @@ module _ (c : Config) (p e k b : ℕ) (s : State) (i : IsSound c s) where
       g : Grows (record s { up = remove s.up 0 }) (meet c (record s { up = remove s.up 0 }) m.name)
       g = grows_meet c (record s { up = remove s.up 0 }) m.name
 
-      rest : (w : ℕ) → IsOnWay (record s { up = remove s.up 0 }) w k → IsOnWay (meet c (record s { up = remove s.up 0 }) m.name) w k
-      rest w h = way_grows (record s { up = remove s.up 0 }) (meet c (record s { up = remove s.up 0 }) m.name) w k g h
+      rest : (w : ℕ) → IsOnWay (record s { up = remove s.up 0 }) w (k w) → IsOnWay (meet c (record s { up = remove s.up 0 }) m.name) w (k w)
+      rest w h = way_grows (record s { up = remove s.up 0 }) (meet c (record s { up = remove s.up 0 }) m.name) w (k w) g h
 
-      way : (w : ℕ) → w < workers c → k ≤ size c w → IsOnWay s w k → IsOnWay (meet c (record s { up = remove s.up 0 }) m.name) w k
+      way : (w : ℕ) → w < workers c → (k w) ≤ size c w → IsOnWay s w (k w) → IsOnWay (meet c (record s { up = remove s.up 0 }) m.name) w (k w)
       way w h le (Acked a) = rest w (Acked a)
       way w h le (OnDown a) = rest w (OnDown a)
       way w h le (OnBack x a) = rest w (OnBack x a)
-      way w h le (OnUp x a) = elim (first_or_rest (record { name = is_at s.pass w k; epoch = x }) s.up a) [
-        | inl f ↦ let same : record { name = is_at s.pass w k; epoch = x } ≡ m = cc (f, q) in
-            subst (λ (n : Name). IsOnWay (meet c (record s { up = remove s.up 0 }) n) w k) (ap (λ (y : Packet). y.name) same)
-            (meet_way c (record s { up = remove s.up 0 }) w k (at_least c s i w k h le (λ j lt l. r.below w j h lt l)))
+      way w h le (OnUp x a) = elim (first_or_rest (record { name = is_at s.pass w (k w); epoch = x }) s.up a) [
+        | inl f ↦ let same : record { name = is_at s.pass w (k w); epoch = x } ≡ m = cc (f, q) in
+            subst (λ (n : Name). IsOnWay (meet c (record s { up = remove s.up 0 }) n) w (k w)) (ap (λ (y : Packet). y.name) same)
+            (meet_way c (record s { up = remove s.up 0 }) w (k w) (at_least c s i w (k w) h le (λ j lt l. r.below w j h lt l)))
         | inr j ↦ rest w (OnUp x j)
       ]
 
@@ -221,16 +222,16 @@ module _ (c : Config) (p e k b : ℕ) (s : State) (i : IsSound c s) where
     way = λ w lt h le. way w h le (r.way w lt h le);
   }
     where
-      rest : (w : ℕ) → IsOnWay (record s { down = remove s.down 0 }) w k → IsOnWay (receive (record s { down = remove s.down 0 }) m) w k
-      rest w h = way_grows (record s { down = remove s.down 0 }) (receive (record s { down = remove s.down 0 }) m) w k (grows_receive (record s { down = remove s.down 0 }) m) h
+      rest : (w : ℕ) → IsOnWay (record s { down = remove s.down 0 }) w (k w) → IsOnWay (receive (record s { down = remove s.down 0 }) m) w (k w)
+      rest w h = way_grows (record s { down = remove s.down 0 }) (receive (record s { down = remove s.down 0 }) m) w (k w) (grows_receive (record s { down = remove s.down 0 }) m) h
 
-      way : (w : ℕ) → w < workers c → k ≤ size c w → IsOnWay s w k → IsOnWay (receive (record s { down = remove s.down 0 }) m) w k
+      way : (w : ℕ) → w < workers c → (k w) ≤ size c w → IsOnWay s w (k w) → IsOnWay (receive (record s { down = remove s.down 0 }) m) w (k w)
       way w h le (Acked a) = rest w (Acked a)
       way w h le (OnUp x a) = rest w (OnUp x a)
       way w h le (OnBack x a) = rest w (OnBack x a)
-      way w h le (OnDown a) = elim (first_or_rest (record { name = is_at s.pass w k; epoch = s.epoch }) s.down a) [
-        | inl f ↦ let same : record { name = is_at s.pass w k; epoch = s.epoch } ≡ m = cc (f, q) in
-            OnBack Master (subst (λ (y : Packet). In (record { origin = Master; name = is_at s.pass w k; epoch = s.epoch }) (s.back ++ record { origin = Master; name = y.name; epoch = y.epoch } ∷ [])) same (In-last (record { origin = Master; name = is_at s.pass w k; epoch = s.epoch }) s.back))
+      way w h le (OnDown a) = elim (first_or_rest (record { name = is_at s.pass w (k w); epoch = s.epoch }) s.down a) [
+        | inl f ↦ let same : record { name = is_at s.pass w (k w); epoch = s.epoch } ≡ m = cc (f, q) in
+            OnBack Master (subst (λ (y : Packet). In (record { origin = Master; name = is_at s.pass w (k w); epoch = s.epoch }) (s.back ++ record { origin = Master; name = y.name; epoch = y.epoch } ∷ [])) same (In-last (record { origin = Master; name = is_at s.pass w (k w); epoch = s.epoch }) s.back))
         | inr j ↦ rest w (OnDown j)
       ]
 
@@ -250,15 +251,15 @@ module _ (c : Config) (p e k b : ℕ) (s : State) (i : IsSound c s) where
       g : Grows (record s { back = remove s.back 0 }) (learn (record s { back = remove s.back 0 }) a)
       g = grows_learn c (record s { back = remove s.back 0 }) (without_back c s i 0) a
 
-      rest : (w : ℕ) → IsOnWay (record s { back = remove s.back 0 }) w k → IsOnWay (learn (record s { back = remove s.back 0 }) a) w k
-      rest w h = way_grows (record s { back = remove s.back 0 }) (learn (record s { back = remove s.back 0 }) a) w k g h
+      rest : (w : ℕ) → IsOnWay (record s { back = remove s.back 0 }) w (k w) → IsOnWay (learn (record s { back = remove s.back 0 }) a) w (k w)
+      rest w h = way_grows (record s { back = remove s.back 0 }) (learn (record s { back = remove s.back 0 }) a) w (k w) g h
 
-      way : (w : ℕ) → w < workers c → k ≤ size c w → IsOnWay s w k → IsOnWay (learn (record s { back = remove s.back 0 }) a) w k
+      way : (w : ℕ) → w < workers c → (k w) ≤ size c w → IsOnWay s w (k w) → IsOnWay (learn (record s { back = remove s.back 0 }) a) w (k w)
       way w h le (Acked x) = rest w (Acked x)
       way w h le (OnUp x y) = rest w (OnUp x y)
       way w h le (OnDown y) = rest w (OnDown y)
-      way w h le (OnBack x y) = elim (first_or_rest (record { origin = x; name = is_at s.pass w k; epoch = s.epoch }) s.back y) [
-        | inl f ↦ let same : record { origin = x; name = is_at s.pass w k; epoch = s.epoch } ≡ a = cc (f, q) in
-            subst (λ (z : Ack). IsOnWay (learn (record s { back = remove s.back 0 }) z) w k) same (learn_way (record s { back = remove s.back 0 }) w k x)
+      way w h le (OnBack x y) = elim (first_or_rest (record { origin = x; name = is_at s.pass w (k w); epoch = s.epoch }) s.back y) [
+        | inl f ↦ let same : record { origin = x; name = is_at s.pass w (k w); epoch = s.epoch } ≡ a = cc (f, q) in
+            subst (λ (z : Ack). IsOnWay (learn (record s { back = remove s.back 0 }) z) w (k w)) same (learn_way (record s { back = remove s.back 0 }) w (k w) x)
         | inr j ↦ rest w (OnBack x j)
       ]

@@ -4,9 +4,10 @@
 //! start.
 #![tactic(auto)]
 
-ghost use Rattle.std.specs.Prelude.{◌≡◌, ◌≢◌, ◌<◌, ◌≤◌, ℕ, Bool, true, false, List, []};
+ghost use Rattle.std.specs.Prelude.{◌≡◌, ◌≢◌, ◌⊎◌, ◌<◌, ◌≤◌, ℕ, Bool, true, false, List, []};
 ghost use Rattle.ch_protocol.specs.Packets.{Row};
-ghost use Rattle.ch_protocol.specs.Machine.{Policy, Config, State, Event, IsReached, start, step, stopped, passes, workers, can_send};
+ghost use Rattle.ch_protocol.specs.Sender.{least_open};
+ghost use Rattle.ch_protocol.specs.Machine.{Policy, Config, State, Event, IsReached, start, step, stopped, passes, size, workers, can_send};
 ghost use Rattle.ch_protocol.specs.Drain.{IsPast, repeat, take_turn, round, most_rounds, drain};
 ghost use Rattle.ch_protocol.specs.Outcome.{outcome, report, after_schedule};
 ghost use Rattle.ch_protocol.specs.Outcome.Outcome.{Done};
@@ -87,6 +88,10 @@ pub fn row_by_row<A>()
 pub fn drains()
     ensures pass { (c : Config) (s : State) → 0 < workers c → 1 ≤ c.window → IsReached c s → IsPast c s.pass (repeat (round c) (most_rounds c) s) }
     ensures stops { (c : Config) (s : State) → 0 < workers c → 1 ≤ c.window → IsReached c s → stopped c (drain c s) ≡ true }
+
+    // a round acknowledges each worker's least open number, unless the pass is over
+    ensures round { (c : Config) (s : State) → 0 < workers c → 1 ≤ c.window → IsReached c s → IsPast c s.pass (round c s)
+        ⊎ ((w : ℕ) → w < workers c → least_open (size c w) (s.acked w) ≤ size c w → (round c s).acked w (least_open (size c w) (s.acked w)) ≡ true) }
 
     // a turn's sends end where a send would put nothing on the link, and a round of a run that has stopped does nothing
     ensures turn { (c : Config) (s : State) (w : ℕ) → 0 < workers c → 1 ≤ c.window → w < workers c → IsReached c s → can_send c (take_turn c w s) w ≡ false }

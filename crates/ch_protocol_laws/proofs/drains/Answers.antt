@@ -1,5 +1,5 @@
 use Rattle.ch_protocol_laws.proofs.Reached.{reached_ready}
-use Rattle.ch_protocol_laws.proofs.Drained.{pass_over, drains_after}
+use Rattle.ch_protocol_laws.proofs.Drained.{pass_over, drains_after, least_adds}
 use Rattle.ch_protocol_laws.proofs.Fuel.{turn_ends, round_stopped}
 use Rattle.ch_protocol_laws.proofs.drains.Goals as goal
 
@@ -14,3 +14,6 @@ returns-clause-turn _ c s w some room in' r = turn_ends c some room w in' s (rea
 
 pub returns-clause-stopped : goal.returns-clause-stopped
 returns-clause-stopped _ = round_stopped
+
+pub returns-clause-round : goal.returns-clause-round
+returns-clause-round _ c s some room r = least_adds c some room s (reached_ready c s some room r)
