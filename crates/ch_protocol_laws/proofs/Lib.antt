@@ -20,3 +20,4 @@ pub mod LastPass
 pub mod Greatest
 pub mod FirstOfKey
 pub mod OutcomeLaws
+pub mod OtherRows

@@ -1,3 +1,4 @@
 pub mod Always
 pub mod Settled
 pub mod Samples
+pub mod Processed

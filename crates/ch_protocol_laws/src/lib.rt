@@ -14,6 +14,7 @@ ghost use Rattle.ch_protocol.specs.Outcome.Outcome.{Done};
 ghost use Rattle.ch_protocol.specs.Cover.{CoversOnce, CoversTwice, CoversRowByRow, all_rows, rows_received};
 ghost use Rattle.ch_protocol.specs.Invariant.{IsSound};
 ghost use Rattle.ch_protocol_laws.specs.Always.{AreLinksKnown, IsNoEpochAbove, AreProcessedInOrder, EndBelowExpected, AreExactlyBelowExpected, IsHistoryOrdered, AreVerdictsGiven, IsFirstPassWhole, AreOtherPassesExpected, IsExpectedSent, AreReceivedOnce, IsDownBelowExpected, AreAcksTrue, AreAckedSettled, IsPrunedInFirstEpoch, IsFinLast};
+ghost use Rattle.ch_protocol_laws.specs.Processed.{CoversProcessedOnce, CoversProcessedTwice};
 ghost use Rattle.ch_protocol_laws.specs.Samples.{greatest, below_greatest, keys, but_first_of_key};
 ghost use Rattle.ch_protocol_laws.specs.Settled.{AreAllSettled, AreMissingPruned, AreKeptReceived};
 
@@ -81,6 +82,12 @@ pub fn two_passes<A>()
 /// A policy whose second pass has no memory of its own rows meets the law of two passes row by row.
 pub fn row_by_row<A>()
     ensures { (prunes : Policy) (answer : List Row → A) → CoversRowByRow prunes answer → CoversTwice prunes answer }
+{}
+
+/// The laws over processed rows alone are enough: other rows may be taken as processed later and staying.
+pub fn over_processed_rows<A>()
+    ensures once { (prunes : Policy) (answer : List Row → A) → CoversProcessedOnce prunes answer → CoversOnce prunes answer }
+    ensures twice { (prunes : Policy) (answer : List Row → A) → CoversProcessedTwice prunes answer → CoversTwice prunes answer }
 {}
 
 /// From every reached state each pass is over after so many rounds, and drain stops the run, where there is a worker and
