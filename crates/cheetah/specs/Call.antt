@@ -1,0 +1,84 @@
+-- A call of the command: what it was given, what it left, and the promise that ties them.
+use Rattle.std.specs.Prelude.{◌≡◌, ◌⊎◌, ℕ, true, List, [], ◌++◌, Option, Some}
+use Rattle.ch_outside.specs.Faults.{Rose}
+use Rattle.ch_outside.specs.Shelf.{Files}
+use Rattle.ch_outside.specs.Sink.{with_more}
+use Rattle.cheetah.specs.Result.{result_of, is_misuse, memory_line, read_fault_line}
+use Rattle.cheetah.specs.Words.{Query, wish_of}
+
+-- a count of faults before a call and after it
+pub record Faults : Type 0 where
+  pub before : ℕ
+  pub now : ℕ
+
+-- what a sink had written before a call and after it, where it tells, and its faults
+pub record Change : Type 0 where
+  pub old : Option (List ℕ)
+  pub new : Option (List ℕ)
+  pub faults : Faults
+
+-- the words, what the shelf tells, its faults, what became of both sinks, and the status
+pub record Call : Type 0 where
+  pub words : List (List ℕ)
+  pub told : Option Files
+  pub shelf : Faults
+  pub out : Change
+  pub err : Change
+  pub status : ℕ
+
+abbrev pub Failed : Faults → Type 0
+Failed faults = Rose faults.before faults.now
+
+-- these bytes were added, and no others
+abbrev pub Gains : Change → List ℕ → Type 0
+Gains sink bytes = sink.new ≡ with_more sink.old bytes
+
+-- a prefix of these bytes was added
+abbrev pub GainsPrefix : Change → List ℕ → Type 0
+GainsPrefix sink bytes = (part : List ℕ) × (rest : List ℕ) × (part ++ rest ≡ bytes) × Gains sink part
+
+-- status, out and err are those of the result
+pub record IsResult (files : Files) (call : Call) : Type 0 where
+  pub status : call.status ≡ (result_of files call.words).status
+  pub out : Gains call.out (result_of files call.words).out
+  pub err : Gains call.err (result_of files call.words).err
+
+-- Memory ran out. Out gained nothing or the whole, and err nothing or the line that says so
+pub record RanOut (files : Files) (call : Call) : Type 0 where
+  pub status : call.status ≡ 7
+  pub out : Gains call.out [] ⊎ Gains call.out (result_of files call.words).out
+  pub err : Gains call.err [] ⊎ Gains call.err memory_line
+
+-- The shelf failed to read the file that the words name, and err says so
+pub record ReadFailed (call : Call) : Type 0 where
+  pub status : call.status ≡ 5
+  pub text : List ℕ
+  pub name : List ℕ
+  pub file : List ℕ
+  pub named : wish_of call.words ≡ Query text name file
+  pub failed : Failed call.shelf
+  pub out : Gains call.out []
+  pub err : Gains call.err (read_fault_line file)
+
+-- a sink failed
+pub record WriteFailed (call : Call) : Type 0 where
+  pub status : call.status ≡ 6
+  pub failed : Failed call.out.faults ⊎ Failed call.err.faults
+
+-- The headline, where the shelf tells its bytes.
+pub record Headline (call : Call) (files : Files) : Type 0 where
+  -- where no count of faults rose the result is that of the words and the files, or memory ran out
+  pub exact : (Failed call.shelf → ⊥) → (Failed call.out.faults → ⊥) → (Failed call.err.faults → ⊥) → IsResult files call ⊎ RanOut files call
+  -- whatever failed, it is that, or it says what failed
+  pub faulty : IsResult files call ⊎ (RanOut files call ⊎ (ReadFailed call ⊎ WriteFailed call))
+  -- and out gained no byte that isn't the result's
+  pub prefix : GainsPrefix call.out (result_of files call.words).out
+
+-- When a status comes, whether the shelf and the sinks tell their bytes or not.
+pub record Causes (call : Call) : Type 0 where
+  -- 1 exactly where the words are no command, while no put failed and memory is left
+  pub misuse : call.status ≡ 1 → is_misuse (wish_of call.words) ≡ true
+  pub misused : is_misuse (wish_of call.words) ≡ true → (call.status ≡ 1) ⊎ ((call.status ≡ 6) ⊎ (call.status ≡ 7))
+  -- 5 and 6 only where a count of faults rose, and with 5 out gained nothing
+  pub read_fault : call.status ≡ 5 → Failed call.shelf × Gains call.out []
+  pub write_fault : call.status ≡ 6 → Failed call.out.faults ⊎ Failed call.err.faults

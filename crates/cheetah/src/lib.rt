@@ -1,0 +1,18 @@
+//! The command: from its words and files to what it writes and its status.
+#![tactic(auto)]
+
+mod binding;
+mod endings;
+mod evaluation;
+mod query;
+mod selection;
+mod status;
+mod table_row;
+mod top;
+mod verdict;
+mod words;
+
+pub use top::cheetah;
+
+#[cfg(test)]
+mod tests;
