@@ -82,3 +82,8 @@ pub record Causes (call : Call) : Type 0 where
   -- 5 and 6 only where a count of faults rose, and with 5 out gained nothing
   pub read_fault : call.status ≡ 5 → Failed call.shelf × Gains call.out []
   pub write_fault : call.status ≡ 6 → Failed call.out.faults ⊎ Failed call.err.faults
+
+-- What a call of the command promises.
+pub record Promise (call : Call) : Type 0 where
+  pub headline : (files : Files) → call.told ≡ Some files → Headline call files
+  pub causes : Causes call

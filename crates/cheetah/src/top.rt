@@ -1,7 +1,6 @@
-ghost use Rattle.std.specs.Prelude.{◌≡◌, ◌≤◌, Some, map, string_bytes};
+ghost use Rattle.std.specs.Prelude.{◌≡◌, map, string_bytes};
 ghost use Rattle.ch_outside.specs.Faults.{StaysReliable};
-ghost use Rattle.ch_outside.specs.Shelf.{Files};
-ghost use Rattle.cheetah.specs.Call.{Causes, Headline};
+ghost use Rattle.cheetah.specs.Call.{Promise};
 
 use crate::endings::end;
 use crate::verdict::consider;
@@ -17,15 +16,7 @@ pub fn cheetah<F: Shelf, O: Sink, E: Sink>(
     out: &mut O,
     err: &mut E,
 ) -> u8
-    ensures headline { (files : Files) → F.told shelf.old ≡ Some files → Headline (record {
-      words = map string_bytes words.now;
-      told = F.told shelf.old;
-      shelf = record { before = F.faults shelf.old; now = F.faults shelf.new };
-      out = record { old = O.written out.old; new = O.written out.new; faults = record { before = O.faults out.old; now = O.faults out.new } };
-      err = record { old = E.written err.old; new = E.written err.new; faults = record { before = E.faults err.old; now = E.faults err.new } };
-      status = result;
-    }) files }
-    ensures causes { Causes (record {
+    ensures promise { Promise (record {
       words = map string_bytes words.now;
       told = F.told shelf.old;
       shelf = record { before = F.faults shelf.old; now = F.faults shelf.new };
