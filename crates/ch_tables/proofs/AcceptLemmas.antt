@@ -125,6 +125,9 @@ whole_draft room draft header bodies d within w r few short =
       few_parts = let size = ap length d.spans in let count = length-spans_from 0 bodies in omega arith;
       spans = subst (All (λ (span : Span). (span.from ≤ span.to) × (span.to ≤ draft.rows))) (sym d.spans) (spans-within 0 draft.rows bodies (omega (arith, d.rows)));
       names = ap repeated d.named ∙ r;
+      bodies = bodies;
+      draft_of = subst (λ (h : List (List ℕ)). IsDraftOf draft h bodies) (sym d.named) d;
+      wide = subst (λ (h : List (List ℕ)). AreWide (length h) rows) (sym d.named) w;
     }
 
 -- the answer for parts that are refused

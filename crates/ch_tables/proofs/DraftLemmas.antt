@@ -90,8 +90,3 @@ module _ (read : List ℕ → List (List (List ℕ))) where
 pub moved : (room : Room) (old new : Draft) (part : ℕ) (body : List (List (List ℕ))) (left : List (List (List (List ℕ)))) → AddsPart old new body
     → later_refusal room old.header part (old.rows + length body) (old.cells + sum_by length body) left ≡ later_refusal room new.header part new.rows new.cells left
 moved room old new part body left a = rw (a.header, a.rows, a.cells) refl
-
-pub get_or-any : {X : Type 0} (xs : List X) (i : ℕ) (d e : X) → i < length xs → get_or xs i d ≡ get_or xs i e
-get_or-any [] i d e h = absurd (omega arith)
-get_or-any (x ∷ xs) zero d e h = refl
-get_or-any (x ∷ xs) (suc i) d e h = get_or-any xs i d e (omega arith)

@@ -6,6 +6,7 @@ pub mod RecordLemmas
 pub mod RefusalLemmas
 pub mod RepeatLemmas
 pub mod TextLemmas
+pub mod TextsOfLemmas
 pub mod ValueLemmas
 pub mod ViewLemmas
 pub mod WordLemmas

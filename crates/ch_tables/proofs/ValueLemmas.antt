@@ -1,12 +1,14 @@
 -- The columns of a draft, and the table that they give.
-use Rattle.std.proofs.Common.{◌≡◌, ℕ, zero, suc, ◌+◌, ◌-◌, ◌<◌, false, List, [], ◌∷◌, ◌++◌, length, get_or, map, Some, slice_get, ℤ, pos, refl, sym, ap, ap₂, subst, ◌∙◌, arith, append_assoc, length-append}
+use Rattle.std.proofs.Common.{◌≡◌, ℕ, zero, suc, ◌+◌, ◌-◌, ◌<◌, ◌≤◌, false, List, [], ◌∷◌, ◌++◌, length, get_or, map, Some, slice_get, ℤ, pos, refl, sym, ap, ap₂, subst, ◌∙◌, arith, append_assoc, length-append}
 use Rattle.std.specs.Prelude.{All, sum_by}
 use Rattle.std.specs.List.{list_all, range_with_len, zip}
-use Rattle.std.proofs.lemmas.List.{append-nil, get_or-map, length-map}
+use Rattle.std.proofs.lemmas.List.{append-nil, get_or-map, length-map, get_or-append-add, get_or_append_left}
 use Rattle.std.proofs.lemmas.List.FromFn.{fill_by_all}
 use Rattle.std.proofs.lemmas.List.Sums.{sum_by-cons}
 use Rattle.std.proofs.lemmas.Option.{get_or_from_slice_get, slice_get_within}
-use Rattle.ch_cells.specs.Number.{number_of}
+use Rattle.std.specs.Int.RustNames.{unsigned_abs}
+use Rattle.ch_cells.specs.Number.{most, number_of}
+use Rattle.ch_cells.proofs.Spelling.{law}
 use Rattle.ch_cells.specs.declared.cell.Cell.{Cell}
 use Rattle.ch_cells.specs.declared.cell.Cell.TheVariants as cell
 use Rattle.ch_cells.specs.declared.cell.Kind.{Kind}
@@ -103,8 +105,18 @@ within-places texts (text ∷ column) (at ∷ places) e (suc k) d h =
     let rest : ArePlaces texts column places = cc in
     within-places texts column places rest k d (omega arith)
 
+in-range : (column : List (List ℕ)) (numbers : List ℤ) → map number_of column ≡ map Some numbers → (k : ℕ) (d : ℤ) → k < length numbers → unsigned_abs (get_or numbers k d) ≤ most
+in-range column [] e k d h = absurd (omega arith)
+in-range [] (n ∷ numbers) e k d h = cc
+in-range (text ∷ column) (n ∷ numbers) e zero d h =
+    let here : number_of text ≡ Some n = cc in
+    ((law n text).0 here).range
+in-range (text ∷ column) (n ∷ numbers) e (suc k) d h =
+    let rest : map number_of column ≡ map Some numbers = cc in
+    in-range column numbers rest k d (omega arith)
+
 column-StandsFor : (texts : List (List ℕ)) (words : Column) (column : List (List ℕ)) (rows : ℕ) → StandsFor texts words column → length column ≡ rows → IsColumn texts rows words
-column-StandsFor texts (Numbers numbers) column rows s n = length-spelled column numbers.items s ∙ n
+column-StandsFor texts (Numbers numbers) column rows s n = (length-spelled column numbers.items s ∙ n, in-range column numbers.items s)
 column-StandsFor texts (Places places) column rows s n = (length-places texts column places.items s.1 ∙ n, within-places texts column places.items s.1)
 
 pub columns-AllStandFor : (texts : List (List ℕ)) (words : List Column) (columns : List (List (List ℕ))) (rows : ℕ) → AllStandFor texts words columns
@@ -228,16 +240,6 @@ part-of f g s [] d e = refl
 part-of f g s (x ∷ xs) d e =
     ap₂ (λ y ys. y ∷ ys) (ap f (omega arith) ∙ e 0 (omega arith)) (part-of f g (s + 1) xs d (λ i h. ap f (omega arith) ∙ e (suc i) (omega arith)))
 
-get_or-front : {X : Type 0} (xs ys : List X) (i : ℕ) (d : X) → i < length xs → get_or (xs ++ ys) i d ≡ get_or xs i d
-get_or-front [] ys i d h = absurd (omega arith)
-get_or-front (x ∷ xs) ys zero d h = refl
-get_or-front (x ∷ xs) ys (suc i) d h = get_or-front xs ys i d (omega arith)
-
-get_or-back : {X : Type 0} (xs ys : List X) (i j : ℕ) (d : X) → j ≡ length xs + i → get_or (xs ++ ys) j d ≡ get_or ys i d
-get_or-back [] ys i j d e = ap (λ k. get_or ys k d) (omega arith)
-get_or-back (x ∷ xs) ys i zero d e = absurd (omega arith)
-get_or-back (x ∷ xs) ys i (suc j) d e = get_or-back xs ys i j d (omega arith)
-
 -- the rows of each part, of all rows
 parts-of : {Y : Type 0} (f : ℕ → Y) (g : List (List ℕ) → Y) (s : ℕ) (bodies : List (List (List (List ℕ))))
     → ((i : ℕ) → i < length (all_rows bodies) → f (s + i) ≡ g (get_or (all_rows bodies) i []))
@@ -249,9 +251,9 @@ parts-of f g s (body ∷ bodies) e =
     let count : s + length body - s ≡ length body = omega arith in
     ap₂ (λ y ys. y ∷ ys)
     (ap (λ n. map f (range_with_len s n)) count
-    ∙ part-of f g s body [] (λ i h. e i (omega arith) ∙ ap g (get_or-front body rest i [] h)))
+    ∙ part-of f g s body [] (λ i h. e i (omega arith) ∙ ap g (get_or_append_left body rest [] i h)))
     (parts-of f g (s + length body) bodies (λ i h.
-    ap f (omega arith) ∙ (e (length body + i) (omega arith) ∙ ap g (get_or-back body rest i (length body + i) [] refl))))
+    ap f (omega arith) ∙ (e (length body + i) (omega arith) ∙ ap g (get_or-append-add body rest i []))))
 
 pub parts-rows : (width : ℕ) (bodies : List (List (List (List ℕ)))) → AreWide width (all_rows bodies)
     → map (rows_in (map cells_of (map (column_of (all_rows bodies)) (range_with_len 0 width)))) (spans_from 0 bodies) ≡ map (map (row_as (kinds_of width (all_rows bodies)))) bodies

@@ -2,7 +2,8 @@
 use Rattle.std.specs.Prelude.{◌≡◌, ℕ, ◌-◌, ◌<◌, ◌≤◌, ◌^◌, List, [], ◌∷◌, All, length, map, slice_get, slice_index_or, Option, Some, None, ℤ, pos, false, Vec}
 use Rattle.std.specs.Global.{Global}
 use Rattle.std.specs.List.{list_all, range_with_len}
-use Rattle.ch_cells.specs.Number.{number_of}
+use Rattle.std.specs.Int.RustNames.{unsigned_abs}
+use Rattle.ch_cells.specs.Number.{most, number_of}
 use Rattle.ch_cells.specs.declared.cell.Cell.{Cell}
 use Rattle.ch_cells.specs.declared.cell.Cell.TheVariants as cell
 use Rattle.ch_cells.specs.declared.cell.Kind.{Kind}
@@ -10,6 +11,7 @@ use Rattle.ch_cells.specs.declared.cell.Kind.TheVariants as kind
 use Rattle.ch_tables.specs.Refusal.{repeated}
 use Rattle.ch_tables.specs.Table.{is_number}
 use Rattle.ch_tables.specs.TableValue.{TableValue}
+use Rattle.ch_tables.specs.Texts.{texts_of}
 use Rattle.ch_tables.specs.declared.column.Column.{Column}
 use Rattle.ch_tables.specs.declared.column.Column.TheVariants.{Numbers, Places}
 use Rattle.ch_tables.specs.declared.draft.Span.{Span}
@@ -40,6 +42,15 @@ abbrev pub cells_in : List (List ℕ) → Column → List Cell
 cells_in texts (Numbers numbers) = map cell.Number numbers.items
 cells_in texts (Places places) = map (λ at. cell.Text (slice_index_or texts at [])) places.items
 
+abbrev pub column_len : Column → ℕ
+column_len (Numbers numbers) = length numbers.items
+column_len (Places places) = length places.items
+
+-- the word of a column at a place
+abbrev pub IsWordIn : Column → ℕ → ℤ → Type 0
+IsWordIn (Numbers numbers) at word = word ≡ slice_index_or numbers.items at (pos 0)
+IsWordIn (Places places) at word = word ≡ pos (slice_index_or places.items at 0)
+
 abbrev pub number_kind : List ℤ → Kind
 number_kind [] = kind.Void
 number_kind (n ∷ numbers) = kind.Number
@@ -65,7 +76,7 @@ value_of t = record {
 }
 
 abbrev pub IsColumn : List (List ℕ) → ℕ → Column → Type 0
-IsColumn texts rows (Numbers numbers) = length numbers.items ≡ rows
+IsColumn texts rows (Numbers numbers) = (length numbers.items ≡ rows) × All (λ n. unsigned_abs n ≤ most) numbers.items
 IsColumn texts rows (Places places) = (length places.items ≡ rows) × All (λ at. at < length texts) places.items
 
 -- what a table keeps
@@ -77,3 +88,4 @@ pub record IsTable (t : Inside) : Type 0 where
   pub spans : All (λ span. (span.from ≤ span.to) × (span.to ≤ t.rows)) t.spans.items
   pub columns : All (IsColumn t.texts t.rows) t.columns.items
   pub names : repeated t.header ≡ None
+  pub texts : t.texts ≡ texts_of (value_of t)

@@ -1,7 +1,8 @@
 -- The table that parts give.
-use Rattle.std.specs.Prelude.{ℕ, List, [], ◌∷◌, length, map, flat_map, slice_index_or, Option, Some, None, is_some, Result, Ok, Err, ℤ, Bool, if◌then◌else◌}
+use Rattle.std.specs.Prelude.{ℕ, ◌≤◌, List, [], ◌∷◌, length, map, flat_map, slice_index_or, Option, Some, None, is_some, Result, Ok, Err, ℤ, Bool, if◌then◌else◌}
 use Rattle.std.specs.List.{list_all, range_with_len, zip}
-use Rattle.ch_cells.specs.Number.{number_of}
+use Rattle.std.specs.Int.RustNames.{unsigned_abs}
+use Rattle.ch_cells.specs.Number.{most, number_of}
 use Rattle.ch_cells.specs.declared.cell.Cell.{Cell}
 use Rattle.ch_cells.specs.declared.cell.Cell.TheVariants as cell
 use Rattle.ch_cells.specs.declared.cell.Kind.{Kind}
@@ -37,6 +38,15 @@ abbrev pub cell_as : Kind → List ℕ → Cell
 cell_as kind.Number text = number_or_text (number_of text) text
 cell_as kind.Text text = cell.Text text
 cell_as kind.Void text = cell.Text text
+
+-- a cell is of its column's kind, and a number is in range
+abbrev pub IsOfKind : Kind → Cell → Type 0
+IsOfKind kind.Number (cell.Number n) = unsigned_abs n ≤ most
+IsOfKind kind.Number (cell.Text text) = ⊥
+IsOfKind kind.Text (cell.Number n) = ⊥
+IsOfKind kind.Text (cell.Text text) = Unit {0}
+IsOfKind kind.Void (cell.Number n) = ⊥
+IsOfKind kind.Void (cell.Text text) = ⊥
 
 abbrev pub row_as : List Kind → List (List ℕ) → List Cell
 row_as kinds fields = map (λ p. cell_as p.0 p.1) (zip kinds fields)

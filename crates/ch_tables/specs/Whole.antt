@@ -1,6 +1,7 @@
 -- A draft that is read to its end.
 use Rattle.std.specs.Prelude.{◌≡◌, ℕ, ◌<◌, ◌≤◌, ◌^◌, List, All, length, sum_by, None}
 use Rattle.std.specs.List.{AllByRecursion}
+use Rattle.ch_tables.specs.Draft.{IsDraftOf, all_rows}
 use Rattle.ch_tables.specs.Refusal.{repeated}
 use Rattle.ch_tables.specs.declared.draft.Draft.{Draft}
 
@@ -17,3 +18,6 @@ pub record IsWhole (draft : Draft) : Type 0 where
   pub few_parts : length draft.spans.items < 2 ^ 32
   pub spans : All (λ span. (span.from ≤ span.to) × (span.to ≤ draft.rows)) draft.spans.items
   pub names : repeated draft.header ≡ None
+  pub bodies : List (List (List (List ℕ)))
+  pub draft_of : IsDraftOf draft draft.header bodies
+  pub wide : AreWide (length draft.header) (all_rows bodies)

@@ -1,6 +1,6 @@
 ghost use Rattle.std.specs.Prelude.{◌≡◌, ◌+◌, ◌≤◌, ◌<◌, ◌^◌, length, sum_by, IfOk, OnOk};
 ghost use Rattle.std.specs.List.{flat_map};
-ghost use Rattle.ch_tables.specs.Columns.{AllStandFor, ArePlaces, SpellNumbers, StandsFor};
+ghost use Rattle.ch_tables.specs.Columns.{AllStandFor, ArePlaces, IsWordIn, SpellNumbers, StandsFor, column_len};
 ghost use Rattle.ch_tables.specs.Texts.{texts_in, with_texts};
 
 use crate::text_column::TextColumn;
@@ -75,4 +75,15 @@ pub(crate) fn all_words(
         words.push(words_of(alloc, column, texts)?)?;
     }
     Ok(words)
+}
+
+/// The word at a place.
+pub(crate) fn word_in(column: &Column, at: usize) -> i64
+    requires { at < column_len column.now }
+    ensures { IsWordIn column.now at result }
+{
+    match column {
+        Column::Numbers(numbers) => numbers.as_slice()[at],
+        Column::Places(places) => i64::from(places.as_slice()[at]),
+    }
 }

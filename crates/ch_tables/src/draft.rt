@@ -36,21 +36,21 @@ pub(crate) struct Draft {
 }
 
 /// Adds the fields of a row to the columns.
-fn push_row(columns: &mut Vec<TextColumn>, record: &ByteRecord) -> Result<(), Memory>
-    requires { length (fields_of record.now) ≡ vec_len columns.old }
-    ensures { OnOk result (columns.new.items ≡ with_row columns.old.items (fields_of record.now)) }
+fn push_row(columns: &mut Vec<TextColumn>, fields: &ByteRecord) -> Result<(), Memory>
+    requires { length (fields_of fields.now) ≡ vec_len columns.old }
+    ensures { OnOk result (columns.new.items ≡ with_row columns.old.items (fields_of fields.now)) }
 {
     for at in 0..columns.len() {
-        columns[at].push(field(record, at))?;
+        columns[at].push(field(fields, at))?;
     }
     Ok(())
 }
 
-/// Reads the rows of a part, after its header, into the draft. `record` is a buffer.
+/// Reads the rows of a part, after its header, into the draft. `fields` is a buffer.
 fn read_rows<'a>(
     draft: &mut Draft,
     reader: &mut Reader<&'a [u8]>,
-    record: &mut ByteRecord,
+    fields: &mut ByteRecord,
     part: u32,
     room: Room,
 ) -> Result<(), TableError>
@@ -64,8 +64,8 @@ fn read_rows<'a>(
 {
     let want = draft.header.len() as u32;
     let mut row: u32 = 0;
-    while next_record(reader, record)? {
-        let have = record.len() as u32;
+    while next_record(reader, fields)? {
+        let have = fields.len() as u32;
         if have != want {
             return Err(TableError::Ragged {
                 part,
@@ -80,7 +80,7 @@ fn read_rows<'a>(
         if want > room.cells - draft.cells {
             return Err(TableError::TooManyCells { part, row });
         }
-        push_row(&mut draft.columns, record)?;
+        push_row(&mut draft.columns, fields)?;
         draft.rows += 1;
         draft.cells += want;
         row += 1;
@@ -88,11 +88,11 @@ fn read_rows<'a>(
     Ok(())
 }
 
-/// Reads a part after its header. `record` is a buffer.
+/// Reads a part after its header. `fields` is a buffer.
 fn read_body<'a>(
     draft: &mut Draft,
     reader: &mut Reader<&'a [u8]>,
-    record: &mut ByteRecord,
+    fields: &mut ByteRecord,
     part: u32,
     room: Room,
 ) -> Result<(), TableError>
@@ -105,7 +105,7 @@ fn read_body<'a>(
         (λ e. e ≢ TableError.Memory → rows_refusal room part (length draft.old.header) 0 draft.old.rows draft.old.cells (records_left reader.old) ≡ Some e) }
 {
     let from = draft.rows;
-    read_rows(draft, reader, record, part, room)?;
+    read_rows(draft, reader, fields, part, room)?;
     draft.spans.push(Span {
         from,
         to: draft.rows,
@@ -114,12 +114,12 @@ fn read_body<'a>(
 }
 
 /// A draft without rows.
-fn new_draft(alloc: Global, record: &ByteRecord) -> Result<Draft, Memory>
-    requires { length (fields_of record.now) < 2 ^ 32 }
-    ensures empty { IfOk result (λ draft. IsDraftOf draft (fields_of record.now) []) }
+fn new_draft(alloc: Global, fields: &ByteRecord) -> Result<Draft, Memory>
+    requires { length (fields_of fields.now) < 2 ^ 32 }
+    ensures empty { IfOk result (λ draft. IsDraftOf draft (fields_of fields.now) []) }
     ensures within { IfOk result (λ draft. (room : Room) → IsWithin room draft) }
 {
-    let header = copy_header(alloc, record)?;
+    let header = copy_header(alloc, fields)?;
     let mut columns = Vec::new(alloc);
     for _name in header.as_slice() {
         columns.push(TextColumn::new(alloc))?;
@@ -142,15 +142,15 @@ fn read_first(alloc: Global, text: &[u8], room: Room) -> Result<Draft, TableErro
         (λ e. e ≢ TableError.Memory → first_refusal room (records_of text.now) ≡ Some e) }
 {
     let mut reader = open_part(alloc, text);
-    let mut record = ByteRecord::new(alloc);
-    if !next_record(&mut reader, &mut record)? {
+    let mut fields = ByteRecord::new(alloc);
+    if !next_record(&mut reader, &mut fields)? {
         return Err(TableError::NoHeader { part: 0 });
     }
-    if let Some(at) = first_repeat(alloc, &record)? {
+    if let Some(at) = first_repeat(alloc, &fields)? {
         return Err(TableError::DuplicateColumn { at });
     }
-    let mut draft = new_draft(alloc, &record)?;
-    read_body(&mut draft, &mut reader, &mut record, 0, room)?;
+    let mut draft = new_draft(alloc, &fields)?;
+    read_body(&mut draft, &mut reader, &mut fields, 0, room)?;
     Ok(draft)
 }
 
@@ -170,14 +170,14 @@ fn read_later(
         (λ e. e ≢ TableError.Memory → part_refusal room draft.old.header part draft.old.rows draft.old.cells (records_of text.now) ≡ Some e) }
 {
     let mut reader = open_part(alloc, text);
-    let mut record = ByteRecord::new(alloc);
-    if !next_record(&mut reader, &mut record)? {
+    let mut fields = ByteRecord::new(alloc);
+    if !next_record(&mut reader, &mut fields)? {
         return Err(TableError::NoHeader { part });
     }
-    if !has_names(&record, draft.header.as_slice()) {
+    if !has_names(&fields, draft.header.as_slice()) {
         return Err(TableError::HeaderDiffers { part });
     }
-    read_body(draft, &mut reader, &mut record, part, room)
+    read_body(draft, &mut reader, &mut fields, part, room)
 }
 
 /// Reads all parts of a table, or up to the first refusal.

@@ -4,9 +4,9 @@ ghost use Rattle.csv.specs.Records.{fields_of};
 use csv::ByteRecord;
 
 /// The field at a place.
-pub(crate) fn field(record: &ByteRecord, at: usize) -> &[u8]
-    requires { at < length (fields_of record.now) }
-    ensures { result.now ≡ slice_index_or (fields_of record.now) at [] }
+pub(crate) fn field(fields: &ByteRecord, at: usize) -> &[u8]
+    requires { at < length (fields_of fields.now) }
+    ensures { result.now ≡ slice_index_or (fields_of fields.now) at [] }
 {
-    record.get(at).unwrap()
+    fields.get(at).unwrap()
 }

@@ -10,13 +10,13 @@ use csv::ByteRecord;
 use std::alloc::Global;
 
 /// The first name that stands earlier.
-pub(crate) fn first_repeat(alloc: Global, record: &ByteRecord) -> Result<Option<u32>, Memory>
-    requires { length (fields_of record.now) < 2 ^ 32 }
-    ensures { IfOk result (λ at. at ≡ repeated (fields_of record.now)) }
+pub(crate) fn first_repeat(alloc: Global, fields: &ByteRecord) -> Result<Option<u32>, Memory>
+    requires { length (fields_of fields.now) < 2 ^ 32 }
+    ensures { IfOk result (λ at. at ≡ repeated (fields_of fields.now)) }
 {
     let mut names = Texts::new(alloc);
-    for at in 0..record.len() {
-        names.place(alloc, field(record, at))?;
+    for at in 0..fields.len() {
+        names.place(alloc, field(fields, at))?;
         if names.len() == at {
             return Ok(Some(at as u32));
         }
@@ -25,25 +25,25 @@ pub(crate) fn first_repeat(alloc: Global, record: &ByteRecord) -> Result<Option<
 }
 
 /// The names of a header.
-pub(crate) fn copy_header(alloc: Global, record: &ByteRecord) -> Result<Header, Memory>
-    ensures { IfOk result (λ header. header ≡ fields_of record.now) }
+pub(crate) fn copy_header(alloc: Global, fields: &ByteRecord) -> Result<Header, Memory>
+    ensures { IfOk result (λ header. header ≡ fields_of fields.now) }
 {
     let mut header = Listed::new(alloc);
-    for at in 0..record.len() {
-        header.push(Bytes::from_slice(alloc, field(record, at))?)?;
+    for at in 0..fields.len() {
+        header.push(Bytes::from_slice(alloc, field(fields, at))?)?;
     }
     Ok(header)
 }
 
 /// Whether the names of a header are these.
-pub(crate) fn has_names(record: &ByteRecord, names: &[Bytes]) -> bool
-    ensures { result ≡ pointwise bytes_eq (fields_of record.now) names.now }
+pub(crate) fn has_names(fields: &ByteRecord, names: &[Bytes]) -> bool
+    ensures { result ≡ pointwise bytes_eq (fields_of fields.now) names.now }
 {
-    if record.len() != names.len() {
+    if fields.len() != names.len() {
         return false;
     }
-    for at in 0..record.len() {
-        if field(record, at) != names[at].as_slice() {
+    for at in 0..fields.len() {
+        if field(fields, at) != names[at].as_slice() {
             return false;
         }
     }

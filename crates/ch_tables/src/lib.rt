@@ -9,6 +9,8 @@ mod header;
 mod read;
 mod records;
 mod table;
+#[cfg(test)]
+mod tests;
 mod text_column;
 mod texts;
 

@@ -23,12 +23,12 @@ pub(crate) fn open_part<'a>(alloc: Global, text: &'a [u8]) -> Reader<&'a [u8]>
 /// Reads the next record, if there is one.
 pub(crate) fn next_record<'a>(
     reader: &mut Reader<&'a [u8]>,
-    record: &mut ByteRecord,
+    fields: &mut ByteRecord,
 ) -> Result<bool, Memory>
     requires { IsReading reader.old }
-    ensures { IfOk result (λ found. Takes (records_left reader.old) found (fields_of record.new) reader.new) }
+    ensures { IfOk result (λ found. Takes (records_left reader.old) found (fields_of fields.new) reader.new) }
 {
-    if let Ok(found) = reader.read_byte_record(record) {
+    if let Ok(found) = reader.read_byte_record(fields) {
         return Ok(found);
     }
     Err(Memory)

@@ -1,12 +1,14 @@
-ghost use Rattle.std.specs.Prelude.{◌≡◌, ◌<◌, ◌^◌, ℕ, List, length, slice_get, slice_index_or, [], Some, None, pos, IfOk};
+ghost use Rattle.std.specs.Prelude.{◌≡◌, ◌<◌, ◌^◌, ℕ, List, length, slice_get, slice_index_or, [], Some, None, pos, IfOk, bytes_eq};
+ghost use Rattle.std.specs.List.{IsDistinct};
 ghost use Rattle.ch_cells.specs.CellRef.{cell_of};
 ghost use Rattle.ch_cells.specs.declared.cell.Cell.TheVariants as cell;
 ghost use Rattle.ch_tables.specs.Draft.{IsDraftOf, all_rows};
 ghost use Rattle.ch_tables.specs.Refusal.{repeated};
-ghost use Rattle.ch_tables.specs.Table.{kinds_of, table_with};
+ghost use Rattle.ch_tables.specs.Table.{IsOfKind, kinds_of, table_with};
+ghost use Rattle.ch_tables.specs.Texts.{IsWordOf, cell_at, texts_of};
 ghost use Rattle.ch_tables.specs.Whole.{AreWide, IsWhole};
 
-use crate::column::{Column, all_words};
+use crate::column::{Column, all_words, word_in};
 use crate::draft::{Draft, Span};
 use crate::texts::Texts;
 use ch_cells::{Bytes, CellRef, Header, Kind, Memory};
@@ -22,13 +24,6 @@ pub struct Table {
     columns: Vec<Column>,
     texts: Texts,
     rows: u32,
-}
-
-fn number_at<'a>(numbers: &[i64], at: usize) -> CellRef<'a>
-    requires { at < length numbers.now }
-    ensures { cell_of result ≡ cell.Number (slice_index_or numbers.now at (pos 0)) }
-{
-    CellRef::Number(numbers[at])
 }
 
 impl Model for Table {
@@ -92,14 +87,50 @@ impl Table {
         requires part { part < length self.now.parts }
         requires row { row < length (slice_index_or self.now.parts part []) }
         requires col { col < length self.now.header }
-        ensures { slice_get (slice_index_or (slice_index_or self.now.parts part []) row []) col ≡ Some (cell_of result) }
+        ensures value { slice_get (slice_index_or (slice_index_or self.now.parts part []) row []) col ≡ Some (cell_of result) }
+        ensures kind { IsOfKind (slice_index_or self.now.kinds col Kind.Void) (cell_of result) }
     {
         let at = self.spans[part as usize].from as usize + row as usize;
         match &self.columns[col as usize] {
-            Column::Numbers(numbers) => number_at(numbers.as_slice(), at),
+            Column::Numbers(numbers) => lend_number(numbers.as_slice(), at),
             Column::Places(places) => CellRef::Text(self.texts.get(places[at] as usize)),
         }
     }
+
+    /// How many different texts the cells have.
+    pub fn texts(&self) -> u32
+        ensures count { result ≡ length (texts_of self.now) }
+        ensures different { IsDistinct bytes_eq (texts_of self.now) }
+    {
+        self.texts.len() as u32
+    }
+
+    /// The text at a place.
+    pub fn text(&self, at: u32) -> &[u8]
+        requires { at < length (texts_of self.now) }
+        ensures { slice_get (texts_of self.now) at ≡ Some result.now }
+    {
+        self.texts.get(at as usize)
+    }
+
+    /// The word of a cell: in a column of numbers the number, in a column of texts the place of the text.
+    pub fn word(&self, part: u32, row: u32, col: u32) -> i64
+        requires part { part < length self.now.parts }
+        requires row { row < length (slice_index_or self.now.parts part []) }
+        requires col { col < length self.now.header }
+        ensures { IsWordOf (texts_of self.now) (cell_at self.now part row col) result }
+    {
+        let at = self.spans[part as usize].from as usize + row as usize;
+        word_in(&self.columns[col as usize], at)
+    }
+}
+
+/// The number at a place, as a cell.
+fn lend_number<'a>(numbers: &[i64], at: usize) -> CellRef<'a>
+    requires { at < length numbers.now }
+    ensures { cell_of result ≡ cell.Number (slice_index_or numbers.now at (pos 0)) }
+{
+    CellRef::Number(numbers[at])
 }
 
 /// The table of a draft whose parts are read.

@@ -9,7 +9,7 @@ use std::marker::Model;
 /// The texts of a column as they are read: one after another, without an allocation for each.
 #[derive(Drop)]
 pub(crate) struct TextColumn {
-    record: ByteRecord,
+    fields: ByteRecord,
 }
 
 impl Model for TextColumn {
@@ -18,9 +18,9 @@ impl Model for TextColumn {
 
     ghost Value = { List (List ℕ) };
 
-    ghost view = { λ c. fields_of c.record };
+    ghost view = { λ c. fields_of c.fields };
 
-    ghost invariant = { λ c. partial_of c.record ≡ [] };
+    ghost invariant = { λ c. partial_of c.fields ≡ [] };
 }
 
 impl TextColumn {
@@ -28,31 +28,31 @@ impl TextColumn {
         ensures { result ≡ [] }
     {
         TextColumn {
-            record: ByteRecord::new(alloc),
+            fields: ByteRecord::new(alloc),
         }
     }
 
     pub(crate) fn len(&self) -> usize
         ensures { result ≡ length self.now }
     {
-        self.record.len()
+        self.fields.len()
     }
 
     pub(crate) fn get(&self, at: usize) -> &[u8]
         requires { at < length self.now }
         ensures { result.now ≡ slice_index_or self.now at [] }
     {
-        field(&self.record, at)
+        field(&self.fields, at)
     }
 
     /// A column that ran out of memory is empty.
     pub(crate) fn push(&mut self, text: &[u8]) -> Result<(), Memory>
         ensures { OnOk result (self.new ≡ self.old ++ text.now ∷ []) }
     {
-        match self.record.push_field(text) {
+        match self.fields.push_field(text) {
             Ok(()) => Ok(()),
             Err(_) => {
-                self.record.clear();
+                self.fields.clear();
                 Err(Memory)
             }
         }

@@ -5,8 +5,8 @@ use Rattle.ch_tables.specs.Reading.{AreShort, IsReading, records_left}
 use Rattle.ch_tables.specs.Refusal.{rows_refusal}
 use Rattle.ch_tables.proofs.draft.read_rows.Given as goal
 
-abbrev pub invariant-loop-record : goal.invariant-loop-record
-invariant-loop-record l = record {
+abbrev pub invariant-loop-fields : goal.invariant-loop-fields
+invariant-loop-fields l = record {
   reading : IsReading l.reader;
   short : AreShort (records_left l.reader);
   header : l.draft.header ≡ l.fn.draft.header;
@@ -23,5 +23,5 @@ invariant-loop-record l = record {
       ≡ rows_refusal l.room l.part l.want 0 l.fn.draft.rows l.fn.draft.cells (records_left l.fn.reader);
 }
 
-abbrev pub decreases-loop-record : goal.decreases-loop-record
-decreases-loop-record l = length (records_left l.reader)
+abbrev pub decreases-loop-fields : goal.decreases-loop-fields
+decreases-loop-fields l = length (records_left l.reader)

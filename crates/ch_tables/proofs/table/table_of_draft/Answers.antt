@@ -1,6 +1,8 @@
-use Rattle.std.proofs.Common.{◌∙◌, length, ap, subst, refl, arith}
-use Rattle.std.specs.Prelude.{sum_by}
+use Rattle.std.proofs.Common.{[], ◌∙◌, length, ap, subst, refl, arith}
+use Rattle.std.specs.Prelude.{flat_map, sum_by}
 use Rattle.ch_tables.specs.Columns.{AllStandFor}
+use Rattle.ch_tables.specs.Texts.{texts_in, with_texts}
+use Rattle.ch_tables.proofs.TextsOfLemmas.{texts-of-draft}
 use Rattle.ch_tables.proofs.ValueLemmas.{columns-AllStandFor, length-AllStandFor, value-of-draft}
 use Rattle.ch_tables.proofs.table.table_of_draft.Goals as goal
 
@@ -22,6 +24,12 @@ invariant_of-result c =
       spans = whole.spans;
       columns = columns-AllStandFor c.all_words.new.texts c.in_ok-columns.columns.items draft.columns.items draft.rows words whole.full;
       names = whole.names;
+      texts =
+          texts-of-draft draft
+          (record { name = c.in_ok-from_slice.field-0; header = draft.header; spans = draft.spans; columns = c.in_ok-columns.columns; texts = c.all_words.new.texts; rows = draft.rows })
+          whole.bodies whole.draft_of whole.wide words refl refl
+          (e.texts ∙ (ap (λ texts. with_texts texts (flat_map texts_in c.as_slice.result.now)) c.new-texts.ensures
+          ∙ ap (λ columns. with_texts [] (flat_map texts_in columns)) c.as_slice.ensures.value));
     }
 
 pub returns : goal.returns
