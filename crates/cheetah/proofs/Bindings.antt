@@ -1,8 +1,8 @@
 -- A bound plain query names columns that the table has.
-use Rattle.std.proofs.Common.{◌≡◌, ℕ, ◌+◌, ◌<◌, Bool, List, [], ◌∷◌, length, add-one, drop, drop-cons, refl, sym, ◌∙◌, ap, true, false, rules}
+use Rattle.std.proofs.Common.{◌≡◌, ℕ, ◌+◌, ◌<◌, List, length, add-one, drop, drop-cons, refl, sym, ◌∙◌, ap, true, false, rules}
 use Rattle.std.proofs.lemmas.Option.{get_or_from_slice_get, slice_get_within}
 use Rattle.ch_cells.specs.declared.Kind.{Kind}
-use Rattle.std.specs.Prelude.{All, ◌&&◌, Some, slice_get}
+use Rattle.std.specs.Prelude.{◌&&◌, Some, slice_get}
 use Rattle.ch_pred.proofs.Layers.{plain_of-Compare}
 use Rattle.ch_pred.specs.Names.{NamesPrinted}
 use Rattle.ch_pred.specs.declared.Arg.TheVariants as arg

@@ -1,5 +1,5 @@
 -- What a query takes from rows.
-use Rattle.std.proofs.Common.{◌≡◌, List, [], ◌∷◌, ◌++◌, refl, sym, ◌∙◌, ap}
+use Rattle.std.proofs.Common.{◌≡◌, List, [], ◌∷◌, ◌++◌, refl}
 use Rattle.ch_cells.specs.declared.Cell.{Cell}
 use Rattle.ch_pred.specs.Holds.{holds_of}
 use Rattle.ch_pred.specs.Meaning.{cell_at, meaning, meaning_by}

@@ -1,5 +1,5 @@
 -- What a query over a table's bytes answers.
-use Rattle.std.specs.Prelude.{ℕ, List, [], ◌∷◌, Option, Some, None, option_and_then, option_map, Result, Ok, Err, flat_map}
+use Rattle.std.specs.Prelude.{ℕ, List, [], ◌∷◌, Option, None, option_and_then, option_map, Result, Ok, Err, flat_map}
 use Rattle.ch_cells.specs.Row.{ascending}
 use Rattle.ch_cells.specs.declared.Answer.{Answer}
 use Rattle.ch_cells.specs.declared.Cell.{Cell}

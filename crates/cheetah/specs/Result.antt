@@ -1,5 +1,5 @@
 -- The result of the command: its status, and what it writes, from the words and the files.
-use Rattle.std.specs.Prelude.{ℕ, Bool, true, false, nat_le, List, [], ◌∷◌, ◌++◌, length, Option, Some, None, codes, if◌then◌else◌}
+use Rattle.std.specs.Prelude.{ℕ, Bool, true, false, nat_le, List, [], ◌++◌, length, Option, Some, None, codes, if◌then◌else◌}
 use Rattle.ch_outside.specs.Shelf.{Files}
 use Rattle.cheetah.specs.Evaluation.{evaluated}
 use Rattle.cheetah.specs.Words.{Wish, NoWords, WrongWords, BadTable, Query, wish_of}

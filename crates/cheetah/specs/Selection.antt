@@ -1,5 +1,5 @@
 -- Which rows a bound query takes from a table.
-use Rattle.std.specs.Prelude.{◌≡◌, ℕ, ◌<◌, List, [], ◌∷◌, ◌++◌, All, length, map, filter}
+use Rattle.std.specs.Prelude.{◌≡◌, ℕ, ◌<◌, List, [], ◌∷◌, All, length, map, filter}
 use Rattle.ch_cells.specs.declared.Cell.{Cell}
 use Rattle.ch_pred.specs.Holds.{holds_of}
 use Rattle.ch_pred.specs.Meaning.{cell_at, projected}
