@@ -1,0 +1,19 @@
+//! The query language: its trees, its grammar as derivations, and the places that a token list comes to.
+#![tactic(auto)]
+
+mod error;
+mod head;
+mod keyword;
+mod query;
+mod tail;
+mod tok;
+
+pub use error::ParseError;
+pub use head::{Head, HeadPlace, HeadStep, HeadTaker};
+pub use keyword::keyword_in;
+pub use query::{Agg, ColumnRef, Having, Item, Pred, Query, Side, SkyDim, Source, Tail};
+pub use tail::{TailPlace, TailTaker};
+pub use tok::{Mark, Tok, is_mark, name_of, toks_of};
+
+#[cfg(test)]
+mod tests;

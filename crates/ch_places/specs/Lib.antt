@@ -1,0 +1,4 @@
+pub mod Completion
+pub mod Machine
+pub mod Parsing
+pub mod Refusal
