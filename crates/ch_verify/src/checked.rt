@@ -1,6 +1,6 @@
 ghost use Rattle.std.specs.Prelude.{◌≡◌};
 ghost use Rattle.ch_ir.specs.declared.program.Program.{Program};
-ghost use Rattle.ch_verify.specs.Checked.{AlwaysRuns, IsChecked};
+ghost use Rattle.ch_verify.specs.Checked.{AccessesApart, AlwaysRuns, IsChecked};
 
 use ch_ir::Program;
 use std::marker::Model;
@@ -39,7 +39,9 @@ impl Checked {
     }
 }
 
-/// A checked program has a value on any words and any registers of its arrays.
+/// A checked program has a value on any words and any registers of its arrays. It makes at most one access per stage, and
+/// accesses each array in at most one stage.
 pub fn checked_programs_run()
-    ensures { (p : Program) → IsChecked p → AlwaysRuns p }
+    ensures runs { (p : Program) → IsChecked p → AlwaysRuns p }
+    ensures apart { (p : Program) → IsChecked p → AccessesApart p }
 {}

@@ -1,5 +1,8 @@
-use Rattle.ch_verify.specs.Checked.{always_runs}
+use Rattle.ch_verify.specs.Checked.{accesses_apart, always_runs}
 use Rattle.ch_verify.proofs.checked.checked_programs_run.Goals as goal
 
-pub returns : goal.returns
-returns c p h = always_runs p h
+pub returns-clause-runs : goal.returns-clause-runs
+returns-clause-runs c p h = always_runs p h
+
+pub returns-clause-apart : goal.returns-clause-apart
+returns-clause-apart c p h = accesses_apart p h
