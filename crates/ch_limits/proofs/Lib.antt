@@ -1,0 +1,4 @@
+pub mod Clear
+pub mod Depths
+pub mod Heads
+pub mod Within
