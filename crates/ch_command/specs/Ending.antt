@@ -11,6 +11,10 @@ use Rattle.ch_command.specs.declared.status.Status.TheVariants as status
 use Rattle.ch_command.specs.declared.stop.Stop.{Stop}
 use Rattle.ch_command.specs.declared.stop.Stop.TheVariants as stop
 
+-- the line refuses the command, unless memory runs out
+abbrev pub Refuses : Refusal → List ℕ → Stop → Type 0
+Refuses refusal line said = (said ≡ stop.Refused refusal line) ⊎ (said ≡ stop.Memory)
+
 -- want of memory was said
 abbrev pub GivesUp : Change → Status → Type 0
 GivesUp err status.Done = ⊥
@@ -54,5 +58,5 @@ Fits told shelf command (Ok text) = (command.is_misuse ≡ false) × Gives told 
 Fits told shelf command (Err (stop.Refused refusal.Usage line)) = (command.is_misuse ≡ true) × Gives told command (refused 1 line)
 Fits told shelf command (Err (stop.Refused refusal.Input line)) = (command.is_misuse ≡ false) × Gives told command (refused 2 line)
 Fits told shelf command (Err (stop.Refused refusal.Rejected line)) = (command.is_misuse ≡ false) × Gives told command (refused 3 line)
-Fits told shelf command (Err (stop.Refused refusal.ReadFault line)) = Failed shelf × NamesFile command line
+Fits told shelf command (Err (stop.Refused refusal.ReadFault line)) = Failed shelf × NamesFile command line × (command.is_misuse ≡ false)
 Fits told shelf command (Err stop.Memory) = Unit {0}

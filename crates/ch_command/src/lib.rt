@@ -10,3 +10,6 @@ pub use ending::end;
 pub use reading::{limit_after, read_file};
 pub use status::{Refusal, Status};
 pub use stop::Stop;
+
+#[cfg(test)]
+mod tests;

@@ -1,5 +1,6 @@
-ghost use Rattle.std.specs.Prelude.{◌≡◌, ◌≤◌, ◌⊎◌};
+ghost use Rattle.std.specs.Prelude.{◌≡◌, ◌≤◌};
 ghost use Rattle.ch_outside.specs.Faults.{StaysReliable};
+ghost use Rattle.ch_command.specs.Ending.{Refuses};
 ghost use Rattle.ch_command.specs.Lines.{missing_line, too_large_line, read_fault_line};
 ghost use Rattle.ch_command.specs.Reading.{ReadsFile, limit_after};
 
@@ -23,7 +24,7 @@ pub fn limit_after(taken: usize) -> usize
 }
 
 fn missing(alloc: Global, file: &str) -> Stop
-    ensures { (result ≡ Stop.Refused Refusal.Input (missing_line file.now)) ⊎ (result ≡ Stop.Memory) }
+    ensures { Refuses Refusal.Input (missing_line file.now) result }
 {
     match format!(in alloc; "input: file {file} missing\n") {
         Ok(line) => Stop::Refused(Refusal::Input, Bytes::from_vec(line.into_bytes())),
@@ -32,7 +33,7 @@ fn missing(alloc: Global, file: &str) -> Stop
 }
 
 fn too_large(alloc: Global, file: &str) -> Stop
-    ensures { (result ≡ Stop.Refused Refusal.Input (too_large_line file.now)) ⊎ (result ≡ Stop.Memory) }
+    ensures { Refuses Refusal.Input (too_large_line file.now) result }
 {
     match format!(in alloc; "input: file {file} too large\n") {
         Ok(line) => Stop::Refused(Refusal::Input, Bytes::from_vec(line.into_bytes())),
@@ -41,7 +42,7 @@ fn too_large(alloc: Global, file: &str) -> Stop
 }
 
 fn read_fault(alloc: Global, file: &str) -> Stop
-    ensures { (result ≡ Stop.Refused Refusal.ReadFault (read_fault_line file.now)) ⊎ (result ≡ Stop.Memory) }
+    ensures { Refuses Refusal.ReadFault (read_fault_line file.now) result }
 {
     match format!(in alloc; "read fault: {file}\n") {
         Ok(line) => Stop::Refused(Refusal::ReadFault, Bytes::from_vec(line.into_bytes())),

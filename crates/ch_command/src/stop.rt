@@ -1,6 +1,8 @@
+ghost use Rattle.ch_command.specs.Ending.{Refuses};
+
 use crate::status::Refusal;
 use ch_cells::{Bytes, Memory};
-use std::alloc::{AllocError, AllocFailed};
+use std::alloc::{AllocError, AllocFailed, Global};
 
 /// Why a command ends without an answer.
 #[derive(Debug, Drop)]
@@ -8,6 +10,18 @@ pub enum Stop {
     /// With the line that says why.
     Refused(Refusal, Bytes),
     Memory,
+}
+
+impl Stop {
+    /// A refusal with this line.
+    pub fn refused(alloc: Global, refusal: Refusal, line: &[u8]) -> Stop
+        ensures { Refuses refusal line.now result }
+    {
+        match Bytes::from_slice(alloc, line) {
+            Ok(line) => Stop::Refused(refusal, line),
+            Err(_) => Stop::Memory,
+        }
+    }
 }
 
 impl From<Memory> for Stop {

@@ -1,3 +1,4 @@
+mod Verdicts
 pub mod Bindings
 pub mod Selections
 pub mod Tokens

@@ -1,10 +1,7 @@
 pub mod Binding
-pub mod Call
-pub mod Ending
 pub mod Evaluation
 pub mod Query
 pub mod Result
 pub mod Selection
-pub mod Status
 pub mod Verdict
 pub mod Words

@@ -2,11 +2,9 @@
 #![tactic(auto)]
 
 mod binding;
-mod endings;
 mod evaluation;
 mod query;
 mod selection;
-mod status;
 mod table_row;
 mod top;
 mod verdict;

@@ -1,10 +1,11 @@
 ghost use Rattle.std.specs.Prelude.{◌≡◌, map, string_bytes};
 ghost use Rattle.ch_outside.specs.Faults.{StaysReliable};
-ghost use Rattle.cheetah.specs.Call.{Promise};
+ghost use Rattle.ch_command.specs.Call.{Promise};
+ghost use Rattle.cheetah.specs.Result.{command_of};
 
-use crate::endings::end;
 use crate::verdict::consider;
 use ch_cells::Listed;
+use ch_command::end;
 use ch_outside::{Shelf, Sink};
 use std::alloc::Global;
 
@@ -16,8 +17,7 @@ pub fn cheetah<F: Shelf, O: Sink, E: Sink>(
     out: &mut O,
     err: &mut E,
 ) -> u8
-    ensures promise { Promise (record {
-      words = map string_bytes words.now;
+    ensures promise { Promise (command_of (map string_bytes words.now)) (record {
       told = F.told shelf.old;
       shelf = record { before = F.faults shelf.old; now = F.faults shelf.new };
       out = record { old = O.written out.old; new = O.written out.new; faults = record { before = O.faults out.old; now = O.faults out.new } };
