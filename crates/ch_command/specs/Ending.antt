@@ -43,6 +43,15 @@ Ends (Err stop.Memory) out err status = Gains out [] × GivesUp err status
 
 -- What a command has to come to before anything is written.
 
+-- the outcome that a verdict over texts gives is one of these
+abbrev pub Comes : (Outcome → Type 0) → Result (List ℕ) Stop → Type 0
+Comes Is (Ok text) = Is (answered text)
+Comes Is (Err (stop.Refused refusal.Usage line)) = ⊥
+Comes Is (Err (stop.Refused refusal.Input line)) = Is (refused 2 line)
+Comes Is (Err (stop.Refused refusal.Rejected line)) = Is (refused 3 line)
+Comes Is (Err (stop.Refused refusal.ReadFault line)) = ⊥
+Comes Is (Err stop.Memory) = Unit {0}
+
 -- the files that are told give this outcome
 abbrev pub Gives : Option Files → Command → Outcome → Type 0
 Gives told command outcome = (files : Files) → told ≡ Some files → command.comes_to files outcome

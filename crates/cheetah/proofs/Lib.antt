@@ -1,4 +1,3 @@
-mod Verdicts
 pub mod Bindings
 pub mod Selections
 pub mod Tokens

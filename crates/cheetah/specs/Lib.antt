@@ -3,5 +3,4 @@ pub mod Evaluation
 pub mod Query
 pub mod Result
 pub mod Selection
-pub mod Verdict
 pub mod Words

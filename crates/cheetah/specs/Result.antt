@@ -32,9 +32,6 @@ result_of_wish files WrongWords = refused 1 wrong_words_line
 result_of_wish files BadTable = refused 1 bad_table_line
 result_of_wish files (Query text name file) = result_of_file text name (contents_of file (limit_after 0) (files file))
 
-abbrev pub result_of : Files → List (List ℕ) → Outcome
-result_of files words = result_of_wish files (wish_of words)
-
 -- whether the words are no command
 abbrev pub is_misuse : Wish → Bool
 is_misuse NoWords = true
@@ -43,12 +40,15 @@ is_misuse BadTable = true
 is_misuse (Query text name file) = false
 
 -- the words name this file
-abbrev pub NamesIn : Wish → List ℕ → Type 0
-NamesIn NoWords f = ⊥
-NamesIn WrongWords f = ⊥
-NamesIn BadTable f = ⊥
-NamesIn (Query text name file) f = f ≡ file
+abbrev pub Names : Wish → List ℕ → Type 0
+Names NoWords f = ⊥
+Names WrongWords f = ⊥
+Names BadTable f = ⊥
+Names (Query text name file) f = f ≡ file
 
--- what the words mean
+-- what words with this wish mean
+abbrev pub command_for : Wish → Command
+command_for asked = record { comes_to = λ files outcome. outcome ≡ result_of_wish files asked; is_misuse = is_misuse asked; names = Names asked }
+
 abbrev pub command_of : List (List ℕ) → Command
-command_of words = record { comes_to = λ files outcome. outcome ≡ result_of files words; is_misuse = is_misuse (wish_of words); names = NamesIn (wish_of words) }
+command_of words = command_for (wish_of words)

@@ -1,10 +1,10 @@
 ghost use Rattle.std.specs.Prelude.{◌≡◌, ◌≤◌, length, map, string_bytes};
-ghost use Rattle.ch_command.specs.Ending.{Fits};
+ghost use Rattle.ch_command.specs.Ending.{Comes, Fits};
 ghost use Rattle.ch_command.specs.Reading.{most_bytes};
 ghost use Rattle.ch_outside.specs.Faults.{StaysReliable};
 ghost use Rattle.cheetah.specs.Evaluation.{evaluated};
-ghost use Rattle.cheetah.specs.Result.{command_of};
-ghost use Rattle.cheetah.specs.Verdict.{FitsQuery, Judges};
+ghost use Rattle.cheetah.specs.Result.{command_for, command_of, outcome_of};
+ghost use Rattle.cheetah.specs.Words.{Query};
 
 use crate::evaluation::evaluate;
 use crate::words::{Asked, asked_in};
@@ -16,7 +16,7 @@ use std::alloc::Global;
 /// The answer of a query over a table's bytes.
 fn judge(alloc: Global, text: &str, name: &str, bytes: Bytes) -> Result<Bytes, Stop>
     requires { length bytes ≤ most_bytes }
-    ensures { Judges (evaluated text.now name.now bytes) result }
+    ensures { Comes (λ outcome. outcome ≡ outcome_of (evaluated text.now name.now bytes)) result }
 {
     match evaluate(alloc, text.as_bytes(), name.as_bytes(), bytes)? {
         Some(answer) => Ok(answer),
@@ -32,7 +32,7 @@ fn judge_file<F: Shelf>(
     file: &str,
     shelf: &mut F,
 ) -> Result<Bytes, Stop>
-    ensures fits { FitsQuery (F.told shelf.old) (record { before = F.faults shelf.old; now = F.faults shelf.new }) text.now name.now file.now result }
+    ensures fits { Fits (F.told shelf.old) (record { before = F.faults shelf.old; now = F.faults shelf.new }) (command_for (Query text.now name.now file.now)) result }
     ensures same { F.told shelf.new ≡ F.told shelf.old }
     ensures later { F.faults shelf.old ≤ F.faults shelf.new }
     ensures steady { StaysReliable (F.reliable shelf.old) (F.reliable shelf.new) (F.faults shelf.old) (F.faults shelf.new) }
