@@ -1,4 +1,4 @@
-ghost use Rattle.std.specs.Prelude.{◌≡◌, ◌≤◌};
+ghost use Rattle.std.specs.Prelude.{◌≡◌, ◌≤◌, ◌⊎◌};
 ghost use Rattle.ch_outside.specs.Faults.{StaysReliable};
 ghost use Rattle.ch_command.specs.Ending.{Answers, Ends, GivesUp, Says};
 
@@ -6,6 +6,7 @@ use crate::status::{Refusal, Status};
 use crate::stop::Stop;
 use ch_cells::Bytes;
 use ch_outside::{Sink, SinkError};
+use std::io::ErrorKind;
 
 /// Says that memory ran out, where the sink takes it.
 fn give_up<E: Sink>(err: &mut E) -> Status
@@ -29,6 +30,19 @@ fn say<E: Sink>(err: &mut E, line: &[u8], refusal: Refusal) -> Status
         Ok(()) => Status::Refused(refusal),
         Err(SinkError::Failed) => Status::WriteFault,
         Err(SinkError::Memory) => give_up(err),
+    }
+}
+
+/// Says why the words can't be read: memory ran out, or one of them isn't UTF-8.
+pub fn refuse_words<E: Sink>(err: &mut E, kind: ErrorKind, usage: &[u8]) -> Status
+    ensures said { GivesUp (record { old = E.written err.old; new = E.written err.new; faults = record { before = E.faults err.old; now = E.faults err.new } }) result
+        ⊎ Says (record { old = E.written err.old; new = E.written err.new; faults = record { before = E.faults err.old; now = E.faults err.new } }) usage.now Refusal.Usage result }
+    ensures later { E.faults err.old ≤ E.faults err.new }
+    ensures steady { StaysReliable (E.reliable err.old) (E.reliable err.new) (E.faults err.old) (E.faults err.new) }
+{
+    match kind {
+        ErrorKind::OutOfMemory => give_up(err),
+        _ => say(err, usage, Refusal::Usage),
     }
 }
 

@@ -6,7 +6,7 @@ mod reading;
 mod status;
 mod stop;
 
-pub use ending::end;
+pub use ending::{end, refuse_words};
 pub use reading::{limit_after, read_file};
 pub use status::{Refusal, Status};
 pub use stop::Stop;
