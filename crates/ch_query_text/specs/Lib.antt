@@ -1,0 +1,5 @@
+pub mod Law
+pub mod Layout
+pub mod Printed
+pub mod Spelled
+pub mod Writing
