@@ -1,19 +1,18 @@
 -- The printed tokens of a predicate that is derived derive it again, and no deeper.
-use Rattle.std.proofs.Common.{◌≡◌, ℕ, ◌+◌, ◌-◌, ◌<◌, ◌≤◌, max, Bool, true, false, not, ◌&&◌, ◌==◌, List, [], ◌∷◌, ◌++◌, map, length, take, drop, get_or, nat_lt, refl, sym, ap, ap₂, ◌∙◌, append_assoc, append-nil, arith, subst, length-append, if◌then◌else◌}
+use Rattle.std.proofs.Common.{◌≡◌, ℕ, ◌+◌, ◌-◌, ◌<◌, ◌≤◌, Bool, true, false, not, ◌&&◌, ◌==◌, List, [], ◌∷◌, ◌++◌, map, length, take, drop, get_or, nat_lt, refl, sym, ap, ap₂, ◌∙◌, append_assoc, append-nil, arith, subst, length-append, if◌then◌else◌}
 use Rattle.std.specs.List.{list_all}
 use Rattle.std.proofs.lemmas.Grind.{common_steps}
-use Rattle.std.proofs.lemmas.Bool.{cases_Bool}
 use Rattle.std.proofs.lemmas.Bool.Decides.{nat_tests}
-use Rattle.std.proofs.lemmas.List.{take-append-drop, take-append-le}
+use Rattle.std.proofs.lemmas.List.{take-append-drop}
 use Rattle.std.proofs.Math.Seq.{take-append_seam}
-use Rattle.ch_tokens.proofs.Bools.{if_true, if_false, both, same}
+use Rattle.ch_tokens.proofs.Bools.{both, same}
 use Rattle.ch_tokens.proofs.QuoteRules.{dropped}
 use Rattle.ch_pred.specs.declared.pred.Literal.{Literal}
 use Rattle.ch_grammar.specs.declared.tok.Mark.TheVariants as mark
 use Rattle.ch_grammar.specs.declared.tok.Tok.{Tok}
 use Rattle.ch_grammar.specs.declared.tok.Tok.TheVariants as tok
 use Rattle.ch_grammar.specs.declared.query.ColumnRef.{ColumnRef}
-use Rattle.ch_grammar.specs.Tree.{Plain, Plains, Compare, Between, Within, Like, And, Or, Not, nil, cons, plains, all_of, any_of}
+use Rattle.ch_grammar.specs.Tree.{Plain, Plains, Within, Like, And, Or, Not, plains, all_of, any_of}
 use Rattle.ch_grammar.specs.Grammar as grammar
 use Rattle.ch_grammar.specs.Grammar.{Pred, conj, or, Conj, neg, and, Neg, parens, atom, col_tokens, pred_tokens, conj_tokens, neg_tokens, atom_tokens, atom_tree, conj_trees, neg_trees, neg_tree, pred_tree, conj_tree}
 use Rattle.ch_places.specs.Machine.{is_prefix}

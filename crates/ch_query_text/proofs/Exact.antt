@@ -1,5 +1,5 @@
 -- A printed token is what a scan finds at its place.
-use Rattle.std.proofs.Common.{◌≡◌, ℕ, ◌+◌, ◌^◌, ◌<◌, ◌≤◌, ◌==◌, ◌||◌, inl, inr, suc, zero, Bool, true, false, List, [], ◌∷◌, ◌++◌, length, take, Some, refl, sym, ap, ap₂, ◌∙◌, append_assoc, append-nil, if◌then◌else◌, arith, subst, add-one, length-append, is_none}
+use Rattle.std.proofs.Common.{◌≡◌, ℕ, ◌+◌, ◌^◌, ◌<◌, ◌≤◌, ◌==◌, ◌||◌, inl, inr, suc, Bool, true, false, List, [], ◌∷◌, ◌++◌, length, take, Some, refl, sym, ap, ap₂, ◌∙◌, append_assoc, append-nil, if◌then◌else◌, arith, length-append}
 use Rattle.std.specs.Prelude.{ℤ, pos, negsuc, nat_le}
 use Rattle.std.specs.Str.{all_ascii_digits}
 use Rattle.std.specs.Fmt.{decimal, signed_decimal}
@@ -17,8 +17,8 @@ use Rattle.ch_tokens.specs.declared.scanner.Front.{Front}
 use Rattle.ch_tokens.specs.declared.scanner.Front.TheVariants.{Found, OutOfRange, Nothing}
 use Rattle.ch_tokens.specs.Byte.{is_letter, is_word_byte, begins_with, run}
 use Rattle.ch_tokens.specs.Quote.{quoted_of, with_byte, or_else}
-use Rattle.ch_tokens.specs.Spelling.{symbol_spelling, doubled, in_quotes, spelling, is_word, IsToken, Ends, TokenAt}
-use Rattle.ch_tokens.specs.Scan.{number_length, number_read, number_front, word_front, name_read, quoted_front, text_read, text_front, front_of}
+use Rattle.ch_tokens.specs.Spelling.{symbol_spelling, doubled, in_quotes, spelling, is_word, IsToken, Ends}
+use Rattle.ch_tokens.specs.Scan.{number_read, number_front, word_front, name_read, quoted_front, text_read, text_front, front_of}
 use Rattle.ch_tokens.proofs.Bools.{if_true, if_false, both, or_true_right, same}
 use Rattle.ch_tokens.proofs.QuoteRules.{plain_cons, double_cons, last_cons, NoQuote}
 use Rattle.ch_tokens.proofs.Fronts.{Covers, front_covers}

@@ -1,6 +1,5 @@
 -- The printed tokens of a query that is derived derive it again, within the limits where it was.
-use Rattle.std.proofs.Common.{◌≡◌, ℕ, Bool, true, false, List, [], ◌∷◌, ◌++◌, map, inl, inr, Option, Some, None, option_map, refl, sym, ap, ap₂, ◌∙◌, append_assoc, append-nil, subst, arith, ◌≤◌}
-use Rattle.std.specs.Prelude.{ℤ}
+use Rattle.std.proofs.Common.{◌≡◌, ℕ, Bool, true, false, List, [], ◌∷◌, ◌++◌, map, inl, Option, Some, None, option_map, refl, sym, ap, ap₂, ◌∙◌, append_assoc, append-nil, arith}
 use Rattle.ch_grammar.specs.declared.tok.Mark.TheVariants as mark
 use Rattle.ch_grammar.specs.declared.tok.Tok.{Tok}
 use Rattle.ch_grammar.specs.declared.tok.Tok.TheVariants as tok
@@ -12,11 +11,11 @@ use Rattle.ch_grammar.specs.declared.query.Tail.{Tail}
 use Rattle.ch_grammar.specs.declared.query.Tail.TheVariants as tail
 use Rattle.ch_grammar.specs.Tree.{Plain, Select}
 use Rattle.ch_grammar.specs.Grammar as grammar
-use Rattle.ch_grammar.specs.Grammar.{Pred, Conj, Form, IsForm, IsQuery, Direction, unsaid, ascending, descending, Ending, top, group, skyline, each, col_tokens, item_tokens, dim_tokens, items_tokens, direction_tokens, ending_tokens, endings_tokens, ending_tree, endings_tree, is_descending, form_tokens, form_tree, pred_tree, conj_tree}
+use Rattle.ch_grammar.specs.Grammar.{Pred, Conj, Form, IsForm, IsQuery, Direction, unsaid, descending, Ending, top, group, skyline, each, col_tokens, item_tokens, dim_tokens, items_tokens, direction_tokens, endings_tokens, endings_tree, is_descending, form_tokens, form_tree, pred_tree, conj_tree}
 use Rattle.ch_limits.specs.Limits.{FilterFits, SemiFilterFits, FitsLimits, IsQueryWithin}
-use Rattle.ch_query_text.specs.Printed.{when, joined, filter_tokens, source_tokens, where_tokens, tail_tokens, printed_tokens}
+use Rattle.ch_query_text.specs.Printed.{when, joined, where_tokens, tail_tokens, printed_tokens}
 use Rattle.ch_query_text.proofs.Listing.{joined_each}
-use Rattle.ch_query_text.proofs.Derived.{PredFor, ConjFor, show_pred, show_conj}
+use Rattle.ch_query_text.proofs.Derived.{show_pred, show_conj}
 
 -- filters
 

@@ -1,5 +1,5 @@
 -- Tokens with a mark between them.
-use Rattle.std.proofs.Common.{◌≡◌, ℕ, Bool, true, false, List, [], ◌∷◌, ◌++◌, map, refl, sym, ap, ap₂, ◌∙◌, append_assoc, append-nil}
+use Rattle.std.proofs.Common.{◌≡◌, Bool, true, false, List, [], ◌∷◌, ◌++◌, map, refl, sym, ap, ◌∙◌, append_assoc, append-nil}
 use Rattle.ch_pred.specs.declared.pred.Literal.{Literal}
 use Rattle.ch_grammar.specs.declared.tok.Mark.{Mark}
 use Rattle.ch_grammar.specs.declared.tok.Mark.TheVariants as mark

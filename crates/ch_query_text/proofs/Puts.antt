@@ -1,6 +1,6 @@
 -- Writing tokens behind tokens.
 use Rattle.std.proofs.Common.{◌≡◌, ℕ, ◌+◌, ◌<◌, ◌==◌, Bool, true, false, List, [], ◌∷◌, ◌++◌, length, drop, get_or, Result, Ok, Err, OnOk, refl, sym, ap, ◌∙◌, append_assoc, append-nil, if◌then◌else◌}
-use Rattle.ch_tokens.specs.Spelling.{spelling, doubled, in_quotes}
+use Rattle.ch_tokens.specs.Spelling.{doubled, in_quotes}
 use Rattle.ch_tokens.proofs.QuoteRules.{dropped}
 use Rattle.ch_grammar.specs.declared.tok.Mark.{Mark}
 use Rattle.ch_grammar.specs.declared.tok.Mark.TheVariants as mark
@@ -9,8 +9,7 @@ use Rattle.ch_grammar.specs.declared.query.Pred.TheVariants as pred
 use Rattle.ch_grammar.specs.declared.query.Pred.TheOpen as layer
 use Rattle.ch_grammar.specs.declared.query.Pred.TheFolds.{fold-roll-Pred}
 use Rattle.ch_grammar.specs.Tree.{Plain, Not, plain_of, plain_step}
-use Rattle.ch_query_text.specs.Spelled.{printed_token}
-use Rattle.ch_query_text.specs.Layout.{gap, last_of, laid_out}
+use Rattle.ch_query_text.specs.Layout.{gap, laid_out}
 use Rattle.ch_query_text.specs.Printed.{when, marked_off, in_parens}
 use Rattle.ch_query_text.specs.Writing.{Written, put, puts}
 

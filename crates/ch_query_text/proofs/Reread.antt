@@ -1,5 +1,5 @@
 -- What tokens spell, the tokens of the query that they derive spell again.
-use Rattle.std.proofs.Common.{◌≡◌, ℕ, ◌≢◌, Bool, true, false, List, [], ◌∷◌, ◌++◌, map, ◌⊎◌, inl, inr, Option, Some, None, option_map, Ok, refl, sym, ap, ◌∙◌, subst}
+use Rattle.std.proofs.Common.{◌≡◌, ℕ, Bool, true, false, List, [], ◌∷◌, ◌++◌, map, ◌⊎◌, inl, inr, Option, Some, None, option_map, Ok, sym, ap, subst}
 use Rattle.std.specs.List.{All, AllByRecursion}
 use Rattle.std.proofs.lemmas.List.Elements.{All-from_recursion, recursion_from_All}
 use Rattle.ch_tokens.specs.declared.token.Token.{Token}
@@ -19,7 +19,7 @@ use Rattle.ch_grammar.specs.Tree.{Plain, plains, all_of, any_of, Select}
 use Rattle.ch_grammar.specs.Grammar as grammar
 use Rattle.ch_grammar.specs.Grammar.{Pred, conj, or, Conj, neg, and, Neg, parens, atom, Form, IsQuery, Ending, top, group, skyline, each, col_tokens, item_tokens, dim_tokens, items_tokens, direction_tokens, endings_tokens, endings_tree, is_descending, form_tokens, form_tree, pred_tokens, conj_tokens, neg_tokens, atom_tokens, atom_tree, conj_trees, neg_trees, neg_tree, pred_tree, conj_tree}
 use Rattle.ch_limits.specs.Limits.{IsQueryWithin}
-use Rattle.ch_query_text.specs.Printed.{when, marked_off, joined, in_parens, is_or, is_and_or, filter_tokens, and_members, or_members, source_tokens, where_tokens, tail_tokens, printed_tokens, query_text}
+use Rattle.ch_query_text.specs.Printed.{when, marked_off, joined, in_parens, is_or, is_and_or, filter_tokens, and_members, or_members, where_tokens, tail_tokens, printed_tokens, query_text}
 use Rattle.ch_query_text.specs.Law.{IsSpellable, IsReadAgain, text_tokens}
 use Rattle.ch_query_text.proofs.Listing.{joined_each}
 use Rattle.ch_query_text.proofs.Derived.{within_tokens}

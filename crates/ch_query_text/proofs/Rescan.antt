@@ -1,7 +1,7 @@
 -- Scanning a printed text gives its tokens.
-use Rattle.std.proofs.Common.{◌≡◌, ℕ, ◌+◌, ◌-◌, ◌<◌, ◌≢◌, suc, zero, inl, inr, Bool, true, false, not, List, [], ◌∷◌, ◌++◌, length, drop, map, Some, None, Result, Ok, refl, sym, ap, ap₂, ◌∙◌, if◌then◌else◌, arith, ◌&&◌, is_none}
+use Rattle.std.proofs.Common.{◌≡◌, ℕ, ◌+◌, ◌-◌, ◌<◌, ◌≢◌, suc, zero, inl, inr, Bool, true, false, List, [], ◌∷◌, ◌++◌, length, drop, map, Some, None, Ok, refl, ap, ap₂, ◌∙◌, if◌then◌else◌, arith, is_none}
 use Rattle.std.proofs.lemmas.Bool.{cases_Bool}
-use Rattle.std.proofs.lemmas.List.Elements.{All-from_recursion, recursion_from_All}
+use Rattle.std.proofs.lemmas.List.Elements.{recursion_from_All}
 use Rattle.std.proofs.Math.Seq.{drop-append_seam}
 use Rattle.std.specs.List.{All, AllByRecursion}
 use Rattle.ch_tokens.specs.declared.token.Token.{Token}

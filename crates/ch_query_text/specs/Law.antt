@@ -1,5 +1,5 @@
 -- Which printed tokens a text can spell, and what reading it gives.
-use Rattle.std.specs.Prelude.{ℕ, ◌≡◌, ◌≤◌, ◌≢◌, List, [], Ok, map}
+use Rattle.std.specs.Prelude.{◌≡◌, ◌≤◌, ◌≢◌, List, [], Ok, map}
 use Rattle.std.specs.List.{All}
 use Rattle.std.specs.Int.RustNames.{unsigned_abs}
 use Rattle.ch_cells.specs.Number.{most}

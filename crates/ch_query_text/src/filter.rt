@@ -1,6 +1,5 @@
-ghost use Rattle.std.specs.Prelude.{◌≡◌, ◌++◌, ◌∷◌, [], OnOk, map};
+ghost use Rattle.std.specs.Prelude.{◌≡◌, OnOk, map};
 ghost use Rattle.ch_grammar.specs.declared.tok.Mark.TheVariants as mark;
-ghost use Rattle.ch_grammar.specs.declared.tok.Tok.TheVariants as tok;
 ghost use Rattle.ch_grammar.specs.Grammar.{cmp_mark, side_tokens};
 ghost use Rattle.ch_grammar.specs.Tree.{plain_of, plains, Compare, Between, Within, Like};
 ghost use Rattle.ch_query_text.specs.Printed.{and_members, filter_tokens, is_and_or, is_or, joined, or_members};

@@ -2,7 +2,7 @@ use Rattle.std.proofs.Common.{◌∙◌, [], ap}
 use Rattle.ch_grammar.specs.Tree.{select_of}
 use Rattle.ch_query_text.specs.declared.layout.Last.TheVariants as last
 use Rattle.ch_query_text.specs.Printed.{printed_tokens}
-use Rattle.ch_query_text.specs.Writing.{Written, puts}
+use Rattle.ch_query_text.specs.Writing.{puts}
 use Rattle.ch_query_text.proofs.Puts.{puts_text}
 use Rattle.ch_query_text.proofs.printer.print.Goals as goal
 
