@@ -1,0 +1,10 @@
+pub mod Options
+pub mod Cuts
+pub mod Lists
+pub mod Digits
+pub mod Bytes
+pub mod Parts
+pub mod ListLaws
+pub mod Ops
+pub mod LineLaws
+pub mod Joins
