@@ -121,3 +121,37 @@ cut_none byte [] h = refl
 cut_none byte (x ∷ xs) h =
     let t = and_parts (is_other byte x) (list_all (is_other byte) xs) h in
     passed byte x xs (other byte x t.0) ∙ ap (option_map (λ c. (x ∷ c.0, c.1))) (cut_none byte xs t.1)
+
+-- the first part has no such byte
+pub cut_inner : (byte : ℕ) (text : List ℕ) (c : List ℕ × List ℕ) → cut_of byte text ≡ Some c → list_all (is_other byte) c.0 ≡ true
+unfolding cut_of
+cut_inner byte [] c e = cc
+cut_inner byte (x ∷ xs) c e = elim (cases_Bool (x == byte)) [
+  | inl t ↦
+      let k : Some ([], xs) ≡ Some c = rw t at e in
+      let same : ([], xs) ≡ c = cc in
+      ap (λ (d : List ℕ × List ℕ). list_all (is_other byte) d.0) (sym same)
+  | inr t ↦
+      let m = mapped (λ d. (x ∷ d.0, d.1)) (cut_of byte xs) c (rw t at e) in
+      let o : is_other byte x ≡ true = rw t refl in
+      ap (λ (d : List ℕ × List ℕ). list_all (is_other byte) d.0) (sym m.2) ∙ both (is_other byte x) (list_all (is_other byte) m.0.0) o (cut_inner byte xs m.0 m.1)
+]
+
+no_parts : {A B : Type 0} (f : A → B) (o : Option A) → option_map f o ≡ None → o ≡ None
+no_parts f None e = refl
+no_parts f (Some x) e = cc
+
+none_behind : (byte b : ℕ) (bs : List ℕ) → cut_of byte (b ∷ bs) ≡ None → ((b == byte) ≡ false) × (cut_of byte bs ≡ None)
+unfolding cut_of
+none_behind byte b bs e = elim (cases_Bool (b == byte)) [
+  | inl t ↦ let k : Some ([], bs) ≡ None = rw t at e in cc
+  | inr t ↦ (t, no_parts (λ d. (b ∷ d.0, d.1)) (cut_of byte bs) (rw t at e))
+]
+
+-- where there is none, the text has no such byte
+pub none_inner : (byte : ℕ) (text : List ℕ) → cut_of byte text ≡ None → list_all (is_other byte) text ≡ true
+none_inner byte [] e = refl
+none_inner byte (x ∷ xs) e =
+    let n = none_behind byte x xs e in
+    let o : is_other byte x ≡ true = let t = n.0 in rw t refl in
+    both (is_other byte x) (list_all (is_other byte) xs) o (none_inner byte xs n.1)

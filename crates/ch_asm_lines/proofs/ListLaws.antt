@@ -56,7 +56,7 @@ onto_some : (b : ℕ) (ts : List (List ℕ)) → onto_first b ts ≡ [] → ⊥
 onto_some b [] e = cc
 onto_some b (t ∷ ts) e = cc
 
-split_some : (byte : ℕ) (t : List ℕ) → slice_split (λ b. b == byte) t ≡ [] → ⊥
+pub split_some : (byte : ℕ) (t : List ℕ) → slice_split (λ b. b == byte) t ≡ [] → ⊥
 split_some byte [] e = cc
 split_some byte (b ∷ bs) e = elim (cases_Bool (b == byte)) [
   | inl y ↦ let k : [] ∷ slice_split (λ x. x == byte) bs ≡ [] = rw y at e in cc

@@ -3,7 +3,7 @@ ghost use Rattle.ch_asm_lines.specs.Spelling.{list_text};
 ghost use Rattle.ch_asm_lines.specs.Range.{Each};
 ghost use Rattle.ch_asm_lines.specs.Reading.{Gives, GivesBy, list_of, field_of};
 
-use crate::cut::cut;
+use crate::first_cut::cut;
 use crate::line::LineError;
 use crate::part::{read_listed_word, read_operand, read_update};
 use crate::write_part::{push_operand, push_update, push_word};

@@ -3,7 +3,7 @@ ghost use Rattle.ch_asm_lines.specs.Numbers.{word_of, seed_of};
 ghost use Rattle.ch_asm_lines.specs.Reading.{listed_word_of, operand_of, test_of, test_named, update_of, update_named, binary_of, binary_among, field_of};
 ghost use Rattle.ch_asm_lines.specs.Spelling.{binary_text};
 
-use crate::cut::cut;
+use crate::first_cut::cut;
 use crate::number::{read_constant, read_seed, read_word};
 use ch_ir::{Binary, Operand, Test, Update};
 

@@ -1,7 +1,7 @@
 ghost use Rattle.std.specs.Prelude.{◌≡◌, Some, None, MatchOption};
 ghost use Rattle.ch_asm_lines.specs.Reading.{Gives, pick_of, hash_of, two_of, op_named, op_of, asked_of, access_with, access_of, array_of, line_named, line_of};
 
-use crate::cut::cut;
+use crate::first_cut::cut;
 use crate::line::{Line, LineError};
 use crate::list::{list_field, read_list};
 use crate::number::read_word;

@@ -2,7 +2,7 @@ ghost use Rattle.std.specs.Prelude.{◌≡◌, ◌<◌, Some, None, length, Matc
 ghost use Rattle.ch_asm_lines.specs.Reading.{cut_of};
 
 /// What stands before the first of these bytes, and what stands behind it.
-pub(crate) fn cut(byte: u8, text: &[u8]) -> Option<(&[u8], &[u8])>
+pub fn cut(byte: u8, text: &[u8]) -> Option<(&[u8], &[u8])>
     ensures parts { MatchOption result (cut_of byte text.now ≡ None) (λ parts. cut_of byte text.now ≡ Some (parts.0.now, parts.1.now)) }
     ensures shorter { IfSome result (λ parts. length parts.1.now < length text.now) }
 {

@@ -1,6 +1,6 @@
 use Rattle.std.proofs.Common.{◌≡◌, ◌∙◌, ap, sym, List, ℕ, Some, take, drop, ◌+◌}
 use Rattle.ch_asm_lines.proofs.Cuts.{cut_more, cut_met, cut_end, take-rest}
-use Rattle.ch_asm_lines.proofs.cut.cut.Goals as goal
+use Rattle.ch_asm_lines.proofs.first_cut.cut.Goals as goal
 
 pub returns-then-text-at-clause-parts : goal.returns-then-text-at-clause-parts
 returns-then-text-at-clause-parts c =

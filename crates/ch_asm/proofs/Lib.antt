@@ -1,0 +1,5 @@
+pub mod Texts
+pub mod Places
+pub mod Walks
+pub mod Refusals
+pub mod Reading

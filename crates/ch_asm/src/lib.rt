@@ -1,0 +1,13 @@
+//! The text of a program, both ways.
+#![tactic(auto)]
+
+mod error;
+mod laws;
+mod place;
+mod read;
+mod write;
+
+pub use error::AsmError;
+pub use laws::programs_are_spelled_once;
+pub use read::read_program;
+pub use write::write_program;
