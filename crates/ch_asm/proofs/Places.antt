@@ -1,26 +1,24 @@
 -- The lines that lead to a place, and a program that begins with them.
-use Rattle.std.proofs.Common.{◌≡◌, ◌<◌, ◌^◌, ℕ, Bool, true, false, List, [], ◌∷◌, ◌++◌, length, Option, Some, None, refl, sym, ap, ◌∙◌, subst, append_assoc, map, cond, inl, inr, arith, ◌⊎◌}
-use Rattle.std.specs.Prelude.{option_and_then, ◌==◌}
-use Rattle.std.specs.List.{flat_map, list_all}
+use Rattle.std.proofs.Common.{◌≡◌, ◌<◌, ◌^◌, ℕ, true, List, [], ◌∷◌, ◌++◌, length, Some, None, refl, sym, ap, ◌∙◌, subst, append_assoc, map, inl, inr, arith}
+use Rattle.std.specs.Prelude.{◌==◌}
+use Rattle.std.specs.List.{flat_map, AllByRecursion}
 use Rattle.std.proofs.lemmas.List.{append-nil, map-append}
 use Rattle.std.proofs.lemmas.Grind.{flat_map-append}
-use Rattle.std.proofs.lemmas.Bool.{cases_Bool}
 use Rattle.std.proofs.lemmas.Bool.Decides.{nat_tests}
 use Rattle.ch_ir.specs.declared.program.Op.{Op}
 use Rattle.ch_ir.specs.declared.program.Access.{Access}
 use Rattle.ch_ir.specs.declared.program.Array.{Array}
 use Rattle.ch_ir.specs.declared.program.Stage.{Stage}
 use Rattle.ch_ir.specs.declared.program.Program.{Program}
-use Rattle.ch_asm_lines.specs.Spelling.{line_text}
-use Rattle.ch_asm_lines.specs.Range.{IsWord, Each, IsArray, IsOp, IsAccess, IsLine}
+use Rattle.ch_asm_lines.specs.Range.{IsWord, IsArray, IsOp, IsAccess, IsLine}
 use Rattle.ch_asm_lines.specs.declared.line.Line.{Line}
 use Rattle.ch_asm_lines.specs.declared.line.Line.TheVariants as line
-use Rattle.ch_asm_lines.proofs.Options.{bound, chosen}
+use Rattle.ch_asm_lines.proofs.Options.{chosen}
 use Rattle.ch_asm.specs.declared.place.Begun.{Begun}
 use Rattle.ch_asm.specs.declared.place.Place.{Place}
 use Rattle.ch_asm.specs.declared.place.Place.TheVariants.{Start, Headed, Arrays, InStage, Judged, Ended}
 use Rattle.ch_asm.specs.Text.{stage_lines, lines_of, IsStage, IsProgram}
-use Rattle.ch_asm.specs.Steps.{step, after_start, after_header, after_array, after_part, after_verdict, with_op, with_access, with_stage, judged, empty_stage}
+use Rattle.ch_asm.specs.Steps.{step, after_start, after_header, after_array, after_part, after_verdict, with_stage, judged, empty_stage}
 
 -- the lines behind the arrays and the stages
 abbrev pub body : ℕ → List Array → List Line → List Line
@@ -37,24 +35,24 @@ said (Ended p) = lines_of p
 
 pub record IsBegun (d : Begun) : Type 0 where
   pub width : IsWord d.width
-  pub arrays : Each IsArray d.arrays
-  pub stages : Each IsStage d.stages
+  pub arrays : AllByRecursion IsArray d.arrays
+  pub stages : AllByRecursion IsStage d.stages
 
 abbrev pub IsPlace : Place → Type 0
 IsPlace Start = Unit {0}
 IsPlace Headed = Unit {0}
-IsPlace (Arrays w arrays) = IsWord w × Each IsArray arrays
+IsPlace (Arrays w arrays) = IsWord w × AllByRecursion IsArray arrays
 IsPlace (InStage d s) = IsBegun d × IsStage s
 IsPlace (Judged p) = IsProgram p
 IsPlace (Ended p) = IsProgram p
 
 -- one more at the end
 
-each_more : {X : Type 0} (P : X → Type 0) (xs : List X) (x : X) → Each P xs → P x → Each P (xs ++ x ∷ [])
+each_more : {X : Type 0} (P : X → Type 0) (xs : List X) (x : X) → AllByRecursion P xs → P x → AllByRecursion P (xs ++ x ∷ [])
 each_more P [] x h p = (p, tt)
 each_more P (y ∷ ys) x h p = (h.0, each_more P ys x h.1 p)
 
-pub each_both : {X : Type 0} (P : X → Type 0) (xs ys : List X) → Each P xs → Each P ys → Each P (xs ++ ys)
+pub each_both : {X : Type 0} (P : X → Type 0) (xs ys : List X) → AllByRecursion P xs → AllByRecursion P ys → AllByRecursion P (xs ++ ys)
 each_both P [] ys h k = k
 each_both P (x ∷ xs) ys h k = (h.0, each_both P xs ys h.1 k)
 
@@ -104,8 +102,8 @@ part_goes d s (line.Op op) next e = elim (chosen (length s.accesses == 0) _ None
       let none : [] ≡ s.accesses = no_access s.accesses p.0 in
       let t : Stage = record { ops = s.ops ++ op ∷ []; accesses = s.accesses } in
       let lines : stage_lines t ≡ stage_lines s ++ line.Op op ∷ [] =
-          subst (λ (xs : List Access). (line.Stage ∷ (map line.Op (s.ops ++ op ∷ []) ++ map line.Access xs)) ≡ (line.Stage ∷ (map line.Op s.ops ++ map line.Access xs)) ++ line.Op op ∷ []) none
-          (ap (λ (ls : List Line). line.Stage ∷ ls) (op_more s.ops op)) in
+      subst (λ (xs : List Access). (line.Stage ∷ (map line.Op (s.ops ++ op ∷ []) ++ map line.Access xs)) ≡ (line.Stage ∷ (map line.Op s.ops ++ map line.Access xs)) ++ line.Op op ∷ []) none
+      (ap (λ (ls : List Line). line.Stage ∷ ls) (op_more s.ops op)) in
       goes_to (InStage d s) (line.Op op) (InStage d t) next p.1 (record {
         said = in_stage d s t (line.Op op) lines;
         fits = λ h k. (h.0, record { ops = each_more IsOp s.ops op h.1.ops k; accesses = h.1.accesses });
@@ -119,28 +117,28 @@ part_goes d s (line.Access x) next e =
       fits = λ h k. (h.0, record { ops = h.1.ops; accesses = each_more IsAccess s.accesses x h.1.accesses k });
     })
 part_goes d s line.Stage next e = goes_to (InStage d s) line.Stage (InStage (with_stage d s) empty_stage) next e (record {
-      said = ended_stage d s (line.Stage ∷ []);
-      fits = λ h k. (record { width = h.0.width; arrays = h.0.arrays; stages = each_more IsStage d.stages s h.0.stages h.1 }, record { ops = tt; accesses = tt });
-    })
+  said = ended_stage d s (line.Stage ∷ []);
+  fits = λ h k. (record { width = h.0.width; arrays = h.0.arrays; stages = each_more IsStage d.stages s h.0.stages h.1 }, record { ops = tt; accesses = tt });
+})
 part_goes d s (line.Verdict v) next e = goes_to (InStage d s) (line.Verdict v) (judged (with_stage d s) v) next e (record {
-      said = ended_stage d s (line.Verdict v ∷ []);
-      fits = λ h k. record { width = h.0.width; arrays = h.0.arrays; stages = each_more IsStage d.stages s h.0.stages h.1; verdict = k };
-    })
+  said = ended_stage d s (line.Verdict v ∷ []);
+  fits = λ h k. record { width = h.0.width; arrays = h.0.arrays; stages = each_more IsStage d.stages s h.0.stages h.1; verdict = k };
+})
 part_goes d s l next e = cc
 
 array_goes : (w : ℕ) (arrays : List Array) (l : Line) (next : Place) → after_array w arrays l ≡ Some next → Goes (Arrays w arrays) l next
 array_goes w arrays (line.Array a) next e = goes_to (Arrays w arrays) (line.Array a) (Arrays w (arrays ++ a ∷ [])) next e (record {
-      said = ap (λ (ls : List Line). line.Header ∷ line.Width w ∷ ls) (map-append line.Array arrays (a ∷ []));
-      fits = λ h k. (h.0, each_more IsArray arrays a h.1 k);
-    })
+  said = ap (λ (ls : List Line). line.Header ∷ line.Width w ∷ ls) (map-append line.Array arrays (a ∷ []));
+  fits = λ h k. (h.0, each_more IsArray arrays a h.1 k);
+})
 array_goes w arrays line.Stage next e = goes_to (Arrays w arrays) line.Stage (InStage (record { width = w; arrays = arrays; stages = [] }) empty_stage) next e (record {
-      said = refl;
-      fits = λ h k. (record { width = h.0; arrays = h.1; stages = tt }, record { ops = tt; accesses = tt });
-    })
+  said = refl;
+  fits = λ h k. (record { width = h.0; arrays = h.1; stages = tt }, record { ops = tt; accesses = tt });
+})
 array_goes w arrays (line.Verdict v) next e = goes_to (Arrays w arrays) (line.Verdict v) (judged (record { width = w; arrays = arrays; stages = [] }) v) next e (record {
-      said = refl;
-      fits = λ h k. record { width = h.0; arrays = h.1; stages = tt; verdict = k };
-    })
+  said = refl;
+  fits = λ h k. record { width = h.0; arrays = h.1; stages = tt; verdict = k };
+})
 array_goes w arrays l next e = cc
 
 start_goes : (l : Line) (next : Place) → after_start l ≡ Some next → Goes Start l next
@@ -153,11 +151,11 @@ header_goes l next e = cc
 
 verdict_goes : (p : Program) (l : Line) (next : Place) → after_verdict p l ≡ Some next → Goes (Judged p) l next
 verdict_goes p line.End next e = goes_to (Judged p) line.End (Ended p) next e (record {
-      said =
-        ap (body p.width p.arrays) (sym (append_assoc (flat_map stage_lines p.stages) (line.Verdict p.verdict ∷ []) (line.End ∷ [])))
-        ∙ body_more p.width p.arrays (flat_map stage_lines p.stages ++ line.Verdict p.verdict ∷ []) (line.End ∷ []);
-      fits = λ h k. h;
-    })
+  said =
+      ap (body p.width p.arrays) (sym (append_assoc (flat_map stage_lines p.stages) (line.Verdict p.verdict ∷ []) (line.End ∷ [])))
+      ∙ body_more p.width p.arrays (flat_map stage_lines p.stages ++ line.Verdict p.verdict ∷ []) (line.End ∷ []);
+  fits = λ h k. h;
+})
 verdict_goes p l next e = cc
 
 step_goes : (place : Place) (l : Line) (next : Place) → step place l ≡ Some next → Goes place l next
@@ -190,45 +188,75 @@ completes Start h =
     record { program = p; is_program = record { width = zero_fits; arrays = tt; stages = tt; verdict = zero_fits }; others = lines_of p; whole = refl }
 completes Headed h =
     let p : Program = record { width = 0; arrays = []; stages = []; verdict = 0 } in
-    record { program = p; is_program = record { width = zero_fits; arrays = tt; stages = tt; verdict = zero_fits };
-      others = line.Width 0 ∷ line.Verdict 0 ∷ line.End ∷ []; whole = refl }
+    record {
+      program = p;
+      is_program = record { width = zero_fits; arrays = tt; stages = tt; verdict = zero_fits };
+      others = line.Width 0 ∷ line.Verdict 0 ∷ line.End ∷ [];
+      whole = refl;
+    }
 completes (Arrays w arrays) h =
     let p : Program = record { width = w; arrays = arrays; stages = []; verdict = 0 } in
     record { program = p; is_program = record { width = h.0; arrays = h.1; stages = tt; verdict = zero_fits }; others = line.Verdict 0 ∷ line.End ∷ []; whole = refl }
 completes (InStage d s) h =
     let p : Program = record { width = d.width; arrays = d.arrays; stages = d.stages ++ s ∷ []; verdict = 0 } in
-    record { program = p; is_program = record { width = h.0.width; arrays = h.0.arrays; stages = each_more IsStage d.stages s h.0.stages h.1; verdict = zero_fits };
-      others = line.Verdict 0 ∷ line.End ∷ []; whole = ended_stage d s (line.Verdict 0 ∷ line.End ∷ []) }
+    record {
+      program = p;
+      is_program = record { width = h.0.width; arrays = h.0.arrays; stages = each_more IsStage d.stages s h.0.stages h.1; verdict = zero_fits };
+      others = line.Verdict 0 ∷ line.End ∷ [];
+      whole = ended_stage d s (line.Verdict 0 ∷ line.End ∷ []);
+    }
 completes (Judged p) h =
-    record { program = p; is_program = h; others = line.End ∷ [];
+    record {
+      program = p;
+      is_program = h;
+      others = line.End ∷ [];
       whole = ap (body p.width p.arrays) (sym (append_assoc (flat_map stage_lines p.stages) (line.Verdict p.verdict ∷ []) (line.End ∷ [])))
-        ∙ body_more p.width p.arrays (flat_map stage_lines p.stages ++ line.Verdict p.verdict ∷ []) (line.End ∷ []) }
+          ∙ body_more p.width p.arrays (flat_map stage_lines p.stages ++ line.Verdict p.verdict ∷ []) (line.End ∷ []);
+    }
 completes (Ended p) h = record { program = p; is_program = h; others = []; whole = sym (append-nil (lines_of p)) }
 
 -- all that is said is in range
 
-map_fits : {X : Type 0} (P : X → Type 0) (make : X → Line) → ((x : X) → P x → IsLine (make x)) → (xs : List X) → Each P xs → Each IsLine (map make xs)
+map_fits : {X : Type 0} (P : X → Type 0) (make : X → Line) → ((x : X) → P x → IsLine (make x)) → (xs : List X) → AllByRecursion P xs → AllByRecursion IsLine (map make xs)
 map_fits P make fits [] h = tt
 map_fits P make fits (x ∷ xs) h = (fits x h.0, map_fits P make fits xs h.1)
 
-stage_fits : (s : Stage) → IsStage s → Each IsLine (stage_lines s)
+stage_fits : (s : Stage) → IsStage s → AllByRecursion IsLine (stage_lines s)
 stage_fits s h = (tt, each_both IsLine (map line.Op s.ops) (map line.Access s.accesses) (map_fits IsOp line.Op (λ x p. p) s.ops h.ops) (map_fits IsAccess line.Access (λ x p. p) s.accesses h.accesses))
 
-stages_fit : (ss : List Stage) → Each IsStage ss → Each IsLine (flat_map stage_lines ss)
+stages_fit : (ss : List Stage) → AllByRecursion IsStage ss → AllByRecursion IsLine (flat_map stage_lines ss)
 stages_fit [] h = tt
 stages_fit (s ∷ ss) h = each_both IsLine (stage_lines s) (flat_map stage_lines ss) (stage_fits s h.0) (stages_fit ss h.1)
 
-pub program_fits : (p : Program) → IsProgram p → Each IsLine (lines_of p)
-program_fits p h = (tt, (h.width, each_both IsLine (map line.Array p.arrays) (flat_map stage_lines p.stages ++ line.Verdict p.verdict ∷ line.End ∷ [])
-    (map_fits IsArray line.Array (λ x q. q) p.arrays h.arrays)
-    (each_both IsLine (flat_map stage_lines p.stages) (line.Verdict p.verdict ∷ line.End ∷ []) (stages_fit p.stages h.stages) (h.verdict, (tt, tt)))))
+pub program_fits : (p : Program) → IsProgram p → AllByRecursion IsLine (lines_of p)
+program_fits p h = (
+  tt,
+  (
+    h.width,
+    each_both IsLine (map line.Array p.arrays) (flat_map stage_lines p.stages ++ line.Verdict p.verdict ∷ line.End ∷ [])
+        (map_fits IsArray line.Array (λ x q. q) p.arrays h.arrays)
+        (each_both IsLine (flat_map stage_lines p.stages) (line.Verdict p.verdict ∷ line.End ∷ []) (stages_fit p.stages h.stages) (h.verdict, (tt, tt))),
+  ),
+)
 
-pub place_fits : (place : Place) → IsPlace place → Each IsLine (said place)
+pub place_fits : (place : Place) → IsPlace place → AllByRecursion IsLine (said place)
 place_fits Start h = tt
 place_fits Headed h = (tt, tt)
 place_fits (Arrays w arrays) h = (tt, (h.0, map_fits IsArray line.Array (λ x q. q) arrays h.1))
-place_fits (InStage d s) h = (tt, (h.0.width, each_both IsLine (map line.Array d.arrays) (flat_map stage_lines d.stages ++ stage_lines s) (map_fits IsArray line.Array (λ x q. q) d.arrays h.0.arrays)
-    (each_both IsLine (flat_map stage_lines d.stages) (stage_lines s) (stages_fit d.stages h.0.stages) (stage_fits s h.1))))
-place_fits (Judged p) h = (tt, (h.width, each_both IsLine (map line.Array p.arrays) (flat_map stage_lines p.stages ++ line.Verdict p.verdict ∷ []) (map_fits IsArray line.Array (λ x q. q) p.arrays h.arrays)
-    (each_both IsLine (flat_map stage_lines p.stages) (line.Verdict p.verdict ∷ []) (stages_fit p.stages h.stages) (h.verdict, tt))))
+place_fits (InStage d s) h = (
+  tt,
+  (
+    h.0.width,
+    each_both IsLine (map line.Array d.arrays) (flat_map stage_lines d.stages ++ stage_lines s) (map_fits IsArray line.Array (λ x q. q) d.arrays h.0.arrays)
+        (each_both IsLine (flat_map stage_lines d.stages) (stage_lines s) (stages_fit d.stages h.0.stages) (stage_fits s h.1)),
+  ),
+)
+place_fits (Judged p) h = (
+  tt,
+  (
+    h.width,
+    each_both IsLine (map line.Array p.arrays) (flat_map stage_lines p.stages ++ line.Verdict p.verdict ∷ []) (map_fits IsArray line.Array (λ x q. q) p.arrays h.arrays)
+        (each_both IsLine (flat_map stage_lines p.stages) (line.Verdict p.verdict ∷ []) (stages_fit p.stages h.stages) (h.verdict, tt)),
+  ),
+)
 place_fits (Ended p) h = program_fits p h

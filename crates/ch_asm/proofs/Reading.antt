@@ -1,14 +1,11 @@
 -- A text that is read line by line.
-use Rattle.std.proofs.Common.{◌≡◌, ℕ, ◌+◌, List, [], ◌∷◌, ◌++◌, length, Some, None, refl, sym, ap, ◌∙◌, subst, append_assoc, map, inl, inr, arith, length-append}
+use Rattle.std.proofs.Common.{◌≡◌, ℕ, ◌+◌, List, [], ◌∷◌, ◌++◌, length, Some, None, refl, sym, ap, ◌∙◌, append_assoc, map, inl, inr, length-append}
 use Rattle.std.specs.Prelude.{min}
-use Rattle.std.specs.declared.result.Result.{Result}
-use Rattle.std.specs.declared.result.Result.TheVariants.{Ok, Err}
-use Rattle.std.specs.List.{flat_map}
-use Rattle.std.proofs.lemmas.List.{append-nil, map-append, length-map}
+use Rattle.std.specs.declared.result.Result.TheVariants.{Err}
+use Rattle.std.proofs.lemmas.List.{append-nil, length-map}
 use Rattle.ch_ir.specs.declared.program.Program.{Program}
 use Rattle.ch_asm_lines.specs.Spelling.{line_text, ended}
 use Rattle.ch_asm_lines.specs.Reading.{cut_of, line_of}
-use Rattle.ch_asm_lines.specs.Range.{IsLine}
 use Rattle.ch_asm_lines.specs.declared.line.Line.{Line}
 use Rattle.ch_asm_lines.proofs.Bytes.{cut_is, cut_inner, none_inner}
 use Rattle.ch_asm_lines.proofs.LineLaws.{line_is}
@@ -18,11 +15,11 @@ use Rattle.ch_asm.specs.declared.error.AsmError.TheVariants as error
 use Rattle.ch_asm.specs.declared.place.Place.{Place}
 use Rattle.ch_asm.specs.declared.place.Place.TheVariants.{Ended}
 use Rattle.ch_asm.specs.Text.{program_lines, program_text, spelled, IsProgram}
-use Rattle.ch_asm.specs.Refusal.{IsInner, IsOtherLine, IsCut, IsBadLine, Refuses, Only}
+use Rattle.ch_asm.specs.Refusal.{IsInner, IsBadLine, Refuses}
 use Rattle.ch_asm.specs.Steps.{step, step_text, Steps}
 use Rattle.ch_asm.proofs.Places.{said, IsPlace, step_said, step_fits}
 use Rattle.ch_asm.proofs.Texts.{spelled_both}
-use Rattle.ch_asm.proofs.Refusals.{place_begins, no_step, at_end, bad_is_none, once}
+use Rattle.ch_asm.proofs.Refusals.{place_begins, no_step, at_end, bad_is_none}
 
 -- How far a text was read: the lines that lead to a place, and the rest.
 pub record IsRead (text : List ℕ) (place : Place) (rest : List ℕ) : Type 0 where
@@ -44,11 +41,11 @@ one_more text place next first more rest read parts e =
     record {
       read = record {
         whole =
-          read.whole
-          ∙ ap (λ (t : List ℕ). spelled (said place) ++ t) (cut_is 10 rest (first, more) parts ∙ ap (λ (t : List ℕ). t ++ 10 ∷ more) is.0 ∙ sym (append_assoc (line_text l) (10 ∷ []) more))
-          ∙ sym (append_assoc (spelled (said place)) (ended (line_text l)) more)
-          ∙ ap (λ (t : List ℕ). (spelled (said place) ++ t) ++ more) (sym (append-nil (ended (line_text l))))
-          ∙ ap (λ (t : List ℕ). t ++ more) (sym (spelled_both (said place) (l ∷ [])) ∙ ap spelled (sym longer));
+            read.whole
+            ∙ ap (λ (t : List ℕ). spelled (said place) ++ t) (cut_is 10 rest (first, more) parts ∙ ap (λ (t : List ℕ). t ++ 10 ∷ more) is.0 ∙ sym (append_assoc (line_text l) (10 ∷ []) more))
+            ∙ sym (append_assoc (spelled (said place)) (ended (line_text l)) more)
+            ∙ ap (λ (t : List ℕ). (spelled (said place) ++ t) ++ more) (sym (append-nil (ended (line_text l))))
+            ∙ ap (λ (t : List ℕ). t ++ more) (sym (spelled_both (said place) (l ∷ [])) ∙ ap spelled (sym longer));
         fits = step_fits place l next b.2 read.fits is.1;
       };
       longer = ap length longer ∙ length-append (said place) (l ∷ []);

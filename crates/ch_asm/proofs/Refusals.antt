@@ -1,24 +1,22 @@
 -- A text that is refused is no program's, and a text is one program's.
-use Rattle.std.proofs.Common.{◌≡◌, ℕ, ◌+◌, Bool, true, false, List, [], ◌∷◌, ◌++◌, length, Option, Some, None, refl, sym, ap, ◌∙◌, subst, append_assoc, map, inl, inr, arith, length-append}
-use Rattle.std.specs.Prelude.{option_and_then, ◌==◌, not}
-use Rattle.std.specs.List.{flat_map, list_all, slice_split}
+use Rattle.std.proofs.Common.{◌≡◌, ℕ, List, [], ◌∷◌, ◌++◌, length, Option, Some, None, refl, sym, ap, ◌∙◌, subst, append_assoc, map, inl, inr, arith, length-append}
+use Rattle.std.specs.Prelude.{option_and_then, ◌==◌}
+use Rattle.std.specs.List.{slice_split, AllByRecursion}
 use Rattle.std.proofs.lemmas.List.{append-nil, map-append}
 use Rattle.ch_ir.specs.declared.program.Program.{Program}
-use Rattle.ch_asm_lines.specs.Spelling.{line_text, ended}
-use Rattle.ch_asm_lines.specs.Range.{Each, IsLine}
-use Rattle.ch_asm_lines.specs.Reading.{cut_of, line_of}
+use Rattle.ch_asm_lines.specs.Spelling.{line_text}
+use Rattle.ch_asm_lines.specs.Range.{IsLine}
 use Rattle.ch_asm_lines.specs.declared.line.Line.{Line}
 use Rattle.ch_asm_lines.proofs.Bytes.{cut_back, cut_none}
 use Rattle.ch_asm_lines.proofs.Lists.{split_cut, split_whole}
 use Rattle.ch_asm_lines.proofs.ListLaws.{split_some}
-use Rattle.ch_asm_lines.proofs.LineLaws.{line_is, line_back, line_inner}
-use Rattle.ch_asm_lines.proofs.Options.{bound}
+use Rattle.ch_asm_lines.proofs.LineLaws.{line_back, line_inner}
 use Rattle.ch_asm.specs.declared.place.Place.{Place}
 use Rattle.ch_asm.specs.declared.place.Place.TheVariants.{Start, Ended}
 use Rattle.ch_asm.specs.Text.{lines_of, program_lines, program_text, lines_text, spelled, IsProgram}
-use Rattle.ch_asm.specs.Refusal.{Begin, IsInner, IsOtherLine, IsCut, IsBadLine}
+use Rattle.ch_asm.specs.Refusal.{Begin, IsInner, IsBadLine}
 use Rattle.ch_asm.specs.Steps.{step, step_text}
-use Rattle.ch_asm.proofs.Places.{said, IsPlace, completes, program_fits, place_fits, step_said, step_fits}
+use Rattle.ch_asm.proofs.Places.{said, IsPlace, completes, program_fits, place_fits}
 use Rattle.ch_asm.proofs.Walks.{walk, said_walks}
 
 -- the place to which texts lead
@@ -44,7 +42,7 @@ each_walk : (ls : List Line) (o : Option Place) → ((p : Place) → walk_texts 
 each_walk ls None same = refl
 each_walk ls (Some p) same = same p
 
-texts_walk : (place : Place) (ls : List Line) → Each IsLine ls → walk_texts place (map line_text ls) ≡ walk place ls
+texts_walk : (place : Place) (ls : List Line) → AllByRecursion IsLine ls → walk_texts place (map line_text ls) ≡ walk place ls
 texts_walk place [] h = refl
 texts_walk place (l ∷ ls) h =
     ap (option_and_then (λ next. walk_texts next (map line_text ls))) (step_line place l h.0)
@@ -74,26 +72,26 @@ pub no_step : (place : Place) (t : List ℕ) → IsPlace place → step_text pla
 no_step place t h none b =
     let before : List (List ℕ) = map line_text (said place) in
     let other : walk_texts Start (program_lines b.program) ≡ None =
-        ap (walk_texts Start) (b.whole ∙ append_assoc before (t ∷ []) b.others)
-        ∙ texts_on Start place before (t ∷ b.others) (place_walks place h)
-        ∙ ap (option_and_then (λ next. walk_texts next b.others)) none in
+    ap (walk_texts Start) (b.whole ∙ append_assoc before (t ∷ []) b.others)
+    ∙ texts_on Start place before (t ∷ b.others) (place_walks place h)
+    ∙ ap (option_and_then (λ next. walk_texts next b.others)) none in
     let walked = program_walks b.program b.is_program in
     cc
 
 -- line feeds
 
-lines_inner : (ls : List Line) → Each IsLine ls → Each IsInner (map line_text ls)
+lines_inner : (ls : List Line) → AllByRecursion IsLine ls → AllByRecursion IsInner (map line_text ls)
 lines_inner [] h = tt
 lines_inner (l ∷ ls) h = (line_inner l h.0, lines_inner ls h.1)
 
-place_inner : (place : Place) → IsPlace place → Each IsInner (map line_text (said place))
+place_inner : (place : Place) → IsPlace place → AllByRecursion IsInner (map line_text (said place))
 place_inner place h = lines_inner (said place) (place_fits place h)
 
-program_inner : (p : Program) → IsProgram p → Each IsInner (program_lines p)
+program_inner : (p : Program) → IsProgram p → AllByRecursion IsInner (program_lines p)
 unfolding program_lines
 program_inner p h = lines_inner (lines_of p) (program_fits p h)
 
-each_front : {X : Type 0} (P : X → Type 0) (xs ys : List X) → Each P (xs ++ ys) → Each P xs
+each_front : {X : Type 0} (P : X → Type 0) (xs ys : List X) → AllByRecursion P (xs ++ ys) → AllByRecursion P xs
 each_front P [] ys h = tt
 each_front P (x ∷ xs) ys h = (h.0, each_front P xs ys h.1)
 
@@ -101,7 +99,7 @@ regrouped : (l t rest : List ℕ) → ((l ++ 10 ∷ []) ++ t) ++ rest ≡ l ++ 1
 regrouped l t rest = simp append_assoc
 
 -- the parts of a text that begins with whole lines
-split_lines : (ls : List (List ℕ)) (rest : List ℕ) → Each IsInner ls → slice_split (λ b. b == 10) (lines_text ls ++ rest) ≡ ls ++ slice_split (λ b. b == 10) rest
+split_lines : (ls : List (List ℕ)) (rest : List ℕ) → AllByRecursion IsInner ls → slice_split (λ b. b == 10) (lines_text ls ++ rest) ≡ ls ++ slice_split (λ b. b == 10) rest
 split_lines [] rest h = refl
 split_lines (l ∷ ls) rest h =
     let more : List ℕ = lines_text ls ++ rest in
@@ -145,8 +143,8 @@ pub at_end : (place : Place) (text rest : List ℕ) (p : Program) → IsPlace pl
 at_end place text rest p h whole inner hp e =
     let before : List (List ℕ) = map line_text (said place) in
     let parts : program_lines p ++ [] ∷ [] ≡ before ++ rest ∷ [] =
-        sym (split_program p hp) ∙ ap (slice_split (λ b. b == 10)) (sym e ∙ whole) ∙ split_lines before rest (place_inner place h)
-        ∙ ap (λ (ts : List (List ℕ)). before ++ ts) (split_whole 10 rest (cut_none 10 rest inner)) in
+    sym (split_program p hp) ∙ ap (slice_split (λ b. b == 10)) (sym e ∙ whole) ∙ split_lines before rest (place_inner place h)
+    ∙ ap (λ (ts : List (List ℕ)). before ++ ts) (split_whole 10 rest (cut_none 10 rest inner)) in
     let same = last_same (program_lines p) before [] rest parts in
     let walked : Some (Ended p) ≡ Some place = sym (program_walks p hp) ∙ ap (walk_texts Start) same.0 ∙ place_walks place h in
     (cc, sym same.1)
@@ -156,13 +154,13 @@ pub bad_is_none : (text : List ℕ) (n : ℕ) (p : Program) → IsBadLine text n
 bad_is_none text n p bad hp e = elim bad.ends [
   | inl other ↦
       let before : List (List ℕ) = bad.before in
-      let inner : Each IsInner before = each_front IsInner before bad.begins.others (subst (λ (ts : List (List ℕ)). Each IsInner ts) bad.begins.whole (program_inner bad.begins.program bad.begins.is_program)) in
+      let inner : AllByRecursion IsInner before = each_front IsInner before bad.begins.others (subst (λ (ts : List (List ℕ)). AllByRecursion IsInner ts) bad.begins.whole (program_inner bad.begins.program bad.begins.is_program)) in
       let tail : List (List ℕ) = slice_split (λ b. b == 10) other.more in
       let parts : program_lines p ++ [] ∷ [] ≡ (before ++ other.line ∷ []) ++ tail =
-          sym (split_program p hp) ∙ ap (slice_split (λ b. b == 10)) (sym e ∙ bad.whole) ∙ split_lines before bad.rest inner
-          ∙ ap (λ (t : List ℕ). before ++ slice_split (λ b. b == 10) t) other.comes
-          ∙ ap (λ (ts : List (List ℕ)). before ++ ts) (split_cut 10 (other.line ++ 10 ∷ other.more) (other.line, other.more) (cut_back 10 other.line other.more other.inner))
-          ∙ sym (append_assoc before (other.line ∷ []) tail) in
+      sym (split_program p hp) ∙ ap (slice_split (λ b. b == 10)) (sym e ∙ bad.whole) ∙ split_lines before bad.rest inner
+      ∙ ap (λ (t : List ℕ). before ++ slice_split (λ b. b == 10) t) other.comes
+      ∙ ap (λ (ts : List (List ℕ)). before ++ ts) (split_cut 10 (other.line ++ 10 ∷ other.more) (other.line, other.more) (cut_back 10 other.line other.more other.inner))
+      ∙ sym (append_assoc before (other.line ∷ []) tail) in
       let goes = front_goes_on (program_lines p) (before ++ other.line ∷ []) tail [] parts (split_some 10 other.more) in
       other.begins_none (record { program = p; is_program = hp; others = goes.0; whole = goes.1 })
   | inr last ↦ last.is_none p hp e

@@ -7,7 +7,7 @@ use Rattle.ch_ir.specs.declared.program.Program.{Program}
 use Rattle.ch_asm_lines.specs.Spelling.{line_text, ended}
 use Rattle.ch_asm_lines.specs.declared.line.Line.{Line}
 use Rattle.ch_asm_lines.specs.declared.line.Line.TheVariants as line
-use Rattle.ch_asm.specs.Text.{stage_lines, lines_of, lines_text, spelled, program_lines, program_text}
+use Rattle.ch_asm.specs.Text.{stage_lines, spelled, program_lines, program_text}
 
 pub spelled_both : (a b : List Line) → spelled (a ++ b) ≡ spelled a ++ spelled b
 spelled_both [] b = refl
@@ -34,6 +34,6 @@ program_written p o1 o2 o3 o4 o5 o6 p1 p2 p3 p4 p5 p6 =
     let tail : List Line = line.Verdict p.verdict ∷ line.End ∷ [] in
     pieces _ _ _ _ _ _ _ _ _ _ _ _ p1 p2 p3 p4 p5 p6
     ∙ ap (λ (t : List ℕ). ended (line_text line.Header) ++ (ended (line_text (line.Width p.width)) ++ t))
-        (ap (λ (t : List ℕ). spelled (map line.Array p.arrays) ++ (spelled (flat_map stage_lines p.stages) ++ (ended (line_text (line.Verdict p.verdict)) ++ t))) (sym (append-nil (ended (line_text line.End))))
-        ∙ ap (λ (t : List ℕ). spelled (map line.Array p.arrays) ++ t) (sym (spelled_both (flat_map stage_lines p.stages) tail))
-        ∙ sym (spelled_both (map line.Array p.arrays) (flat_map stage_lines p.stages ++ tail)))
+    (ap (λ (t : List ℕ). spelled (map line.Array p.arrays) ++ (spelled (flat_map stage_lines p.stages) ++ (ended (line_text (line.Verdict p.verdict)) ++ t))) (sym (append-nil (ended (line_text line.End))))
+    ∙ ap (λ (t : List ℕ). spelled (map line.Array p.arrays) ++ t) (sym (spelled_both (flat_map stage_lines p.stages) tail))
+    ∙ sym (spelled_both (map line.Array p.arrays) (flat_map stage_lines p.stages ++ tail)))

@@ -13,7 +13,7 @@ use Rattle.ch_asm_lines.specs.declared.line.Line.TheVariants as line
 use Rattle.ch_asm.specs.declared.place.Begun.{Begun}
 use Rattle.ch_asm.specs.declared.place.Place.{Place}
 use Rattle.ch_asm.specs.declared.place.Place.TheVariants.{Start, Headed, Arrays, InStage, Judged, Ended}
-use Rattle.ch_asm.specs.Text.{stage_lines, lines_of}
+use Rattle.ch_asm.specs.Text.{stage_lines}
 use Rattle.ch_asm.specs.Steps.{step, with_stage, judged, empty_stage}
 use Rattle.ch_asm.proofs.Places.{said, body}
 
@@ -92,7 +92,7 @@ stages_walk d place [] h =
 stages_walk d place (s ∷ ss) h =
     let more = stages_walk (with_stage d s) (InStage d s) ss refl in
     let same : with_stages (with_stage d s) ss ≡ with_stages d (s ∷ ss) =
-        ap (λ (ss' : List Stage). record { width = d.width; arrays = d.arrays; stages = ss' }) (append_assoc d.stages (s ∷ []) ss) in
+    ap (λ (ss' : List Stage). record { width = d.width; arrays = d.arrays; stages = ss' }) (append_assoc d.stages (s ∷ []) ss) in
     record {
       to = more.to;
       walked = walk_on place (InStage d s) (stage_lines s) (flat_map stage_lines ss) (stage_walk d place s h) ∙ more.walked;
@@ -111,8 +111,8 @@ body_walk d rest =
     record {
       to = lead.to;
       walked =
-        walk_on (Arrays d.width []) (Arrays d.width d.arrays) (map line.Array d.arrays) (flat_map stage_lines d.stages ++ rest) (arrays_walk d.width [] d.arrays)
-        ∙ walk_on (Arrays d.width d.arrays) lead.to (flat_map stage_lines d.stages) rest lead.walked;
+          walk_on (Arrays d.width []) (Arrays d.width d.arrays) (map line.Array d.arrays) (flat_map stage_lines d.stages ++ rest) (arrays_walk d.width [] d.arrays)
+          ∙ walk_on (Arrays d.width d.arrays) lead.to (flat_map stage_lines d.stages) rest lead.walked;
       behind = lead.behind;
     }
 

@@ -1,10 +1,10 @@
 -- The text of a program.
 use Rattle.std.specs.Prelude.{ℕ, List, [], ◌∷◌, ◌++◌, map}
-use Rattle.std.specs.List.{flat_map}
+use Rattle.std.specs.List.{flat_map, AllByRecursion}
 use Rattle.ch_ir.specs.declared.program.Stage.{Stage}
 use Rattle.ch_ir.specs.declared.program.Program.{Program}
 use Rattle.ch_asm_lines.specs.Spelling.{line_text, ended}
-use Rattle.ch_asm_lines.specs.Range.{IsWord, Each, IsArray, IsOp, IsAccess}
+use Rattle.ch_asm_lines.specs.Range.{IsWord, IsArray, IsOp, IsAccess}
 use Rattle.ch_asm_lines.specs.declared.line.Line.{Line}
 use Rattle.ch_asm_lines.specs.declared.line.Line.TheVariants as line
 
@@ -30,12 +30,12 @@ unfoldable pub program_text : Program → List ℕ
 program_text p = lines_text (program_lines p)
 
 pub record IsStage (s : Stage) : Type 0 where
-  pub ops : Each IsOp s.ops
-  pub accesses : Each IsAccess s.accesses
+  pub ops : AllByRecursion IsOp s.ops
+  pub accesses : AllByRecursion IsAccess s.accesses
 
 -- the numbers are in the ranges of their types
 pub record IsProgram (p : Program) : Type 0 where
   pub width : IsWord p.width
-  pub arrays : Each IsArray p.arrays
-  pub stages : Each IsStage p.stages
+  pub arrays : AllByRecursion IsArray p.arrays
+  pub stages : AllByRecursion IsStage p.stages
   pub verdict : IsWord p.verdict

@@ -5,6 +5,8 @@ mod error;
 mod laws;
 mod place;
 mod read;
+#[cfg(test)]
+mod tests;
 mod write;
 
 pub use error::AsmError;

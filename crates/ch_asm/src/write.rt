@@ -1,6 +1,6 @@
 ghost use Rattle.std.specs.Prelude.{◌≡◌, ◌++◌, ◌∷◌, OnOk, IfOk, map};
-ghost use Rattle.std.specs.List.{flat_map};
-ghost use Rattle.ch_asm_lines.specs.Range.{Each, IsArray, IsOp, IsAccess};
+ghost use Rattle.std.specs.List.{flat_map, AllByRecursion};
+ghost use Rattle.ch_asm_lines.specs.Range.{IsArray, IsOp, IsAccess};
 ghost use Rattle.ch_asm_lines.specs.declared.line.Line.TheVariants as line;
 ghost use Rattle.ch_asm.specs.Text.{spelled, stage_lines, program_text, IsStage, IsProgram};
 
@@ -11,7 +11,7 @@ use std::alloc::Global;
 
 fn push_arrays(text: &mut Vec<u8>, arrays: &[Array]) -> Result<(), Memory>
     ensures text { OnOk result (text.new.items ≡ text.old.items ++ spelled (map line.Array arrays.now)) }
-    ensures fits { OnOk result (Each IsArray arrays.now) }
+    ensures fits { OnOk result (AllByRecursion IsArray arrays.now) }
 {
     for array in arrays {
         push_line(text, LineRef::Array(*array))?;
@@ -21,7 +21,7 @@ fn push_arrays(text: &mut Vec<u8>, arrays: &[Array]) -> Result<(), Memory>
 
 fn push_ops(text: &mut Vec<u8>, ops: &[Op]) -> Result<(), Memory>
     ensures text { OnOk result (text.new.items ≡ text.old.items ++ spelled (map line.Op ops.now)) }
-    ensures fits { OnOk result (Each IsOp ops.now) }
+    ensures fits { OnOk result (AllByRecursion IsOp ops.now) }
 {
     for op in ops {
         push_line(text, LineRef::Op(op))?;
@@ -31,7 +31,7 @@ fn push_ops(text: &mut Vec<u8>, ops: &[Op]) -> Result<(), Memory>
 
 fn push_accesses(text: &mut Vec<u8>, accesses: &[Access]) -> Result<(), Memory>
     ensures text { OnOk result (text.new.items ≡ text.old.items ++ spelled (map line.Access accesses.now)) }
-    ensures fits { OnOk result (Each IsAccess accesses.now) }
+    ensures fits { OnOk result (AllByRecursion IsAccess accesses.now) }
 {
     for access in accesses {
         push_line(text, LineRef::Access(access))?;
@@ -51,7 +51,7 @@ fn push_stage(text: &mut Vec<u8>, stage: &Stage) -> Result<(), Memory>
 
 fn push_stages(text: &mut Vec<u8>, stages: &[Stage]) -> Result<(), Memory>
     ensures text { OnOk result (text.new.items ≡ text.old.items ++ spelled (flat_map stage_lines stages.now)) }
-    ensures fits { OnOk result (Each IsStage stages.now) }
+    ensures fits { OnOk result (AllByRecursion IsStage stages.now) }
 {
     for stage in stages {
         push_stage(text, stage)?;

@@ -12,7 +12,7 @@ use Rattle.std.proofs.lemmas.Int.{ints}
 use Rattle.ch_cells.specs.Number.{is_digit}
 use Rattle.ch_asm_lines.specs.Numbers.{digits_from, magnitude_of, word_of, seed_of, constant_of, negative}
 use Rattle.ch_asm_lines.specs.Range.{IsWord}
-use Rattle.ch_asm_lines.proofs.Options.{bound, mapped, chosen}
+use Rattle.ch_asm_lines.proofs.Options.{bound, mapped}
 
 -- the value of digits after n
 abbrev pub value_from : ℕ → List ℕ → ℕ

@@ -1,13 +1,12 @@
 -- Lines are read as they are spelled, and only so.
-use Rattle.std.proofs.Common.{◌≡◌, ℕ, Bool, true, false, List, [], ◌∷◌, ◌++◌, Option, Some, None, refl, sym, ap, ◌∙◌, subst, inl, inr}
-use Rattle.std.specs.Prelude.{option_map, option_and_then, bytes_eq, codes, ◌==◌, not}
+use Rattle.std.proofs.Common.{◌≡◌, ℕ, true, List, [], ◌∷◌, ◌++◌, Option, Some, None, refl, ap, ◌∙◌, subst, inl, inr}
+use Rattle.std.specs.Prelude.{option_map, bytes_eq, codes, ◌==◌, not}
 use Rattle.std.specs.List.{list_all, join_with_byte}
 use Rattle.std.specs.Fmt.{decimal}
 use Rattle.std.proofs.lemmas.Bool.{and_parts}
 use Rattle.ch_ir.specs.declared.program.Op.{Op}
 use Rattle.ch_ir.specs.declared.program.Op.TheVariants.{Set, Two, Bit, Pick, Hash}
 use Rattle.ch_ir.specs.declared.program.Access.{Access}
-use Rattle.ch_ir.specs.declared.program.Array.{Array}
 use Rattle.ch_asm_lines.specs.declared.line.Line.{Line}
 use Rattle.ch_asm_lines.specs.declared.line.Line.TheVariants as line
 use Rattle.ch_asm_lines.specs.Spelling.{line_text, line_fields, op_fields, access_fields, array_fields}
@@ -16,7 +15,7 @@ use Rattle.ch_asm_lines.specs.Numbers.{word_of}
 use Rattle.ch_asm_lines.specs.Reading.{cut_of, op_of, access_of, array_of, line_named, line_of}
 use Rattle.ch_asm_lines.proofs.Options.{bound, mapped, chosen}
 use Rattle.ch_asm_lines.proofs.Digits.{word_is, word_back}
-use Rattle.ch_asm_lines.proofs.Bytes.{is_field_byte, is_line_byte, is_other, fields_are_lines, lines_no_feed, all_both, cut_is}
+use Rattle.ch_asm_lines.proofs.Bytes.{is_field_byte, is_line_byte, fields_are_lines, lines_no_feed, all_both, cut_is}
 use Rattle.ch_asm_lines.proofs.Parts.{same_bytes, binary_field}
 use Rattle.ch_asm_lines.proofs.Ops.{op_is, op_back, access_is, access_back, array_is, array_back, words, seeds, operands, tests, word_lists, keys, update_lists}
 
@@ -48,18 +47,18 @@ unfolding line_named line_text
 named_is name t l e = elim (chosen (bytes_eq name (codes "width")) _ _ l e) [
   | inl p ↦ made_is line.Width word_of decimal IsWord (codes "width") word_is (λ w h. (refl, h)) name t l p.0 p.1
   | inr p ↦ elim (chosen (bytes_eq name (codes "array")) _ _ l p.1) [
-      | inl q ↦ made_is line.Array array_of (λ a. join_with_byte 32 (array_fields a)) IsArray (codes "array") array_is (λ a h. (refl, h)) name t l q.0 q.1
-      | inr q ↦ elim (chosen (bytes_eq name (codes "op")) _ _ l q.1) [
-          | inl r ↦ made_is line.Op op_of (λ op. join_with_byte 32 (op_fields op)) IsOp (codes "op") op_is op_text name t l r.0 r.1
-          | inr r ↦ elim (chosen (bytes_eq name (codes "access")) _ _ l r.1) [
-              | inl s ↦ made_is line.Access access_of (λ x. join_with_byte 32 (access_fields x)) IsAccess (codes "access") access_is (λ x h. (refl, h)) name t l s.0 s.1
-              | inr s ↦ elim (chosen (bytes_eq name (codes "verdict")) _ None l s.1) [
-                  | inl v ↦ made_is line.Verdict word_of decimal IsWord (codes "verdict") word_is (λ w h. (refl, h)) name t l v.0 v.1
-                  | inr v ↦ let wrong = v.1 in cc
-                ]
-            ]
+    | inl q ↦ made_is line.Array array_of (λ a. join_with_byte 32 (array_fields a)) IsArray (codes "array") array_is (λ a h. (refl, h)) name t l q.0 q.1
+    | inr q ↦ elim (chosen (bytes_eq name (codes "op")) _ _ l q.1) [
+      | inl r ↦ made_is line.Op op_of (λ op. join_with_byte 32 (op_fields op)) IsOp (codes "op") op_is op_text name t l r.0 r.1
+      | inr r ↦ elim (chosen (bytes_eq name (codes "access")) _ _ l r.1) [
+        | inl s ↦ made_is line.Access access_of (λ x. join_with_byte 32 (access_fields x)) IsAccess (codes "access") access_is (λ x h. (refl, h)) name t l s.0 s.1
+        | inr s ↦ elim (chosen (bytes_eq name (codes "verdict")) _ None l s.1) [
+          | inl v ↦ made_is line.Verdict word_of decimal IsWord (codes "verdict") word_is (λ w h. (refl, h)) name t l v.0 v.1
+          | inr v ↦ let wrong = v.1 in cc
         ]
+      ]
     ]
+  ]
 ]
 
 plain_is : (t known : List ℕ) (made l : Line) → bytes_eq t known ≡ true → Some made ≡ Some l → known ≡ line_text made → IsLine made → (t ≡ line_text l) × IsLine l
@@ -84,15 +83,15 @@ unfolding line_of
 line_is t l e = elim (chosen (bytes_eq t (codes "cheetah program 1")) _ _ l e) [
   | inl p ↦ plain_is t (codes "cheetah program 1") line.Header l p.0 p.1 header_text tt
   | inr p ↦ elim (chosen (bytes_eq t (codes "stage")) _ _ l p.1) [
-      | inl q ↦ plain_is t (codes "stage") line.Stage l q.0 q.1 stage_text tt
-      | inr q ↦ elim (chosen (bytes_eq t (codes "end")) _ _ l q.1) [
-          | inl r ↦ plain_is t (codes "end") line.End l r.0 r.1 end_text tt
-          | inr r ↦
-              let c = bound (cut_of 32 t) _ l r.1 in
-              let n = named_is c.0.0 c.0.1 l c.2 in
-              (cut_is 32 t c.0 c.1 ∙ n.0, n.1)
-        ]
+    | inl q ↦ plain_is t (codes "stage") line.Stage l q.0 q.1 stage_text tt
+    | inr q ↦ elim (chosen (bytes_eq t (codes "end")) _ _ l q.1) [
+      | inl r ↦ plain_is t (codes "end") line.End l r.0 r.1 end_text tt
+      | inr r ↦
+          let c = bound (cut_of 32 t) _ l r.1 in
+          let n = named_is c.0.0 c.0.1 l c.2 in
+          (cut_is 32 t c.0 c.1 ∙ n.0, n.1)
     ]
+  ]
 ]
 
 op_line : (op : Op) → line_text (line.Op op) ≡ with_name (codes "op") (join_with_byte 32 (op_fields op))
@@ -136,8 +135,17 @@ op_bytes (Hash to seed n ws) h = rw (words.bytes to h.0, seeds.bytes seed h.1, w
 
 access_bytes : (x : Access) → IsAccess x → list_all (list_all is_field_byte) (access_fields x) ≡ true
 access_bytes x h =
-    rw (words.bytes x.array h.array, operands.bytes x.index h.index, operands.bytes x.guard h.guard, tests.bytes x.test h.test, keys.bytes x.key h.key,
-        update_lists.bytes x.yes h.yes, update_lists.bytes x.no h.no, words.bytes x.old h.old, words.bytes x.hit h.hit) refl
+    rw (
+      words.bytes x.array h.array,
+      operands.bytes x.index h.index,
+      operands.bytes x.guard h.guard,
+      tests.bytes x.test h.test,
+      keys.bytes x.key h.key,
+      update_lists.bytes x.yes h.yes,
+      update_lists.bytes x.no h.no,
+      words.bytes x.old h.old,
+      words.bytes x.hit h.hit,
+    ) refl
 
 line_bytes : (l : Line) → IsLine l → list_all (list_all is_field_byte) (line_fields l) ≡ true
 line_bytes line.Header h = refl

@@ -1,20 +1,19 @@
 -- Ops and accesses are read as they are spelled, and only so.
-use Rattle.std.proofs.Common.{◌≡◌, ℕ, ◌<◌, ◌^◌, Bool, true, false, List, [], ◌∷◌, ◌++◌, Option, Some, None, refl, sym, ap, ap₂, ◌∙◌, subst, arith, map, inl, inr}
+use Rattle.std.proofs.Common.{◌≡◌, ℕ, ◌<◌, ◌^◌, true, List, ◌∷◌, ◌++◌, Option, Some, refl, ap, ap₂, ◌∙◌, subst, arith, map, inl, inr}
 use Rattle.std.specs.Prelude.{option_map, option_and_then, bytes_eq, codes}
-use Rattle.std.specs.List.{list_all, join_with_byte}
+use Rattle.std.specs.List.{list_all, join_with_byte, AllByRecursion}
 use Rattle.std.specs.Fmt.{decimal}
 use Rattle.ch_ir.specs.declared.program.Operand.{Operand}
 use Rattle.ch_ir.specs.declared.program.Binary.{Binary}
 use Rattle.ch_ir.specs.declared.program.Binary.TheVariants as binary
 use Rattle.ch_ir.specs.declared.program.Op.{Op}
 use Rattle.ch_ir.specs.declared.program.Op.TheVariants.{Set, Two, Bit, Pick, Hash}
-use Rattle.ch_ir.specs.declared.program.Test.{Test}
 use Rattle.ch_ir.specs.declared.program.Update.{Update}
 use Rattle.ch_ir.specs.declared.program.Access.{Access}
 use Rattle.ch_ir.specs.declared.program.Array.{Array}
 use Rattle.ch_asm_lines.specs.declared.read.Asked.{Asked}
 use Rattle.ch_asm_lines.specs.Spelling.{word_text, words_text, operand_text, operands_text, updates_text, list_text, test_text, update_text, binary_text, op_fields, access_fields, array_fields}
-use Rattle.ch_asm_lines.specs.Range.{IsWord, IsOperand, IsTest, IsUpdate, Each, IsOp, IsAccess, IsArray}
+use Rattle.ch_asm_lines.specs.Range.{IsWord, IsOperand, IsTest, IsUpdate, IsOp, IsAccess, IsArray}
 use Rattle.ch_asm_lines.specs.Numbers.{word_of, seed_of}
 use Rattle.ch_asm_lines.specs.Reading.{cut_of, listed_word_of, operand_of, list_of, test_of, update_of, binary_of, field_of, pick_of, hash_of, two_of, op_named, op_of, asked_of, access_with, access_of, array_of}
 use Rattle.ch_asm_lines.proofs.Options.{bound, mapped, chosen}
@@ -32,7 +31,7 @@ pub record Fields {X : Type 0} (Fits : X → Type 0) (text : X → List ℕ) (re
 abbrev of_code : {X : Type 0} (Fits : X → Type 0) (text : X → List ℕ) (read : List ℕ → Option X) → Codes Fits text read → Fields Fits text read
 of_code Fits text read code = record { is = code.is; back = code.back; bytes = λ x h. items_are_fields (text x) (code.bytes x h) }
 
-abbrev of_list : {X : Type 0} (Fits : X → Type 0) (text : X → List ℕ) (read : List ℕ → Option X) → Codes Fits text read → Fields (Each Fits) (λ xs. list_text (map text xs)) (list_of read)
+abbrev of_list : {X : Type 0} (Fits : X → Type 0) (text : X → List ℕ) (read : List ℕ → Option X) → Codes Fits text read → Fields (AllByRecursion Fits) (λ xs. list_text (map text xs)) (list_of read)
 of_list Fits text read code = record { is = list_is Fits text read code; back = list_back Fits text read code; bytes = list_field Fits text read code }
 
 word_field : (w : ℕ) → IsWord w → list_all is_field_byte (decimal w) ≡ true
@@ -50,13 +49,13 @@ operands = of_code IsOperand operand_text operand_of operands_code
 pub tests : Fields IsTest test_text test_of
 tests = of_code IsTest test_text test_of tests_code
 
-pub word_lists : Fields (Each IsWord) words_text (list_of listed_word_of)
+pub word_lists : Fields (AllByRecursion IsWord) words_text (list_of listed_word_of)
 word_lists = of_list IsWord word_text listed_word_of words_code
 
-pub keys : Fields (Each IsOperand) operands_text (list_of operand_of)
+pub keys : Fields (AllByRecursion IsOperand) operands_text (list_of operand_of)
 keys = of_list IsOperand operand_text operand_of operands_code
 
-pub update_lists : Fields (Each IsUpdate) updates_text (list_of update_of)
+pub update_lists : Fields (AllByRecursion IsUpdate) updates_text (list_of update_of)
 update_lists = of_list IsUpdate update_text update_of updates_code
 
 -- a field and what stands behind it
@@ -142,15 +141,15 @@ unfolding op_named
 named_is to name t op h e = elim (chosen (bytes_eq name (codes "set")) _ _ op e) [
   | inl p ↦ along to name (codes "set") t op p.0 (one_is to (codes "set") t Set op h p.1 (λ a f. (refl, (h, f))))
   | inr p ↦ elim (chosen (bytes_eq name (codes "bit")) _ _ op p.1) [
-      | inl q ↦ along to name (codes "bit") t op q.0 (one_is to (codes "bit") t Bit op h q.1 (λ a f. (refl, (h, f))))
-      | inr q ↦ elim (chosen (bytes_eq name (codes "pick")) _ _ op q.1) [
-          | inl r ↦ along to name (codes "pick") t op r.0 (pick_is to t op h r.1)
-          | inr r ↦ elim (chosen (bytes_eq name (codes "hash")) _ _ op r.1) [
-              | inl s ↦ along to name (codes "hash") t op s.0 (hash_is to t op h s.1)
-              | inr s ↦ two_is to name t op h s.1
-            ]
-        ]
+    | inl q ↦ along to name (codes "bit") t op q.0 (one_is to (codes "bit") t Bit op h q.1 (λ a f. (refl, (h, f))))
+    | inr q ↦ elim (chosen (bytes_eq name (codes "pick")) _ _ op q.1) [
+      | inl r ↦ along to name (codes "pick") t op r.0 (pick_is to t op h r.1)
+      | inr r ↦ elim (chosen (bytes_eq name (codes "hash")) _ _ op r.1) [
+        | inl s ↦ along to name (codes "hash") t op s.0 (hash_is to t op h s.1)
+        | inr s ↦ two_is to name t op h s.1
+      ]
     ]
+  ]
 ]
 
 pub op_is : (t : List ℕ) (op : Op) → op_of t ≡ Some op → (t ≡ join_with_byte 32 (op_fields op)) × IsOp op
@@ -186,12 +185,18 @@ op_back (Set to a) h = from_name to (codes "set") (operand_text a) h.0 refl ∙ 
 op_back (Bit to a) h = from_name to (codes "bit") (operand_text a) h.0 refl ∙ ap (option_map (λ x. Bit to x)) (operands.back a h.1)
 op_back (Pick to a x y) h =
     from_name to (codes "pick") (operand_text a ++ 32 ∷ (operand_text x ++ 32 ∷ operand_text y)) h.0 refl
-    ∙ rw (field_back IsOperand operand_text operand_of operands a (operand_text x ++ 32 ∷ operand_text y) h.1,
-        field_back IsOperand operand_text operand_of operands x (operand_text y) h.2, operands.back y h.3) refl
+    ∙ rw (
+      field_back IsOperand operand_text operand_of operands a (operand_text x ++ 32 ∷ operand_text y) h.1,
+      field_back IsOperand operand_text operand_of operands x (operand_text y) h.2,
+      operands.back y h.3,
+    ) refl
 op_back (Hash to seed n ws) h =
     from_name to (codes "hash") (decimal seed ++ 32 ∷ (decimal n ++ 32 ∷ words_text ws)) h.0 refl
-    ∙ rw (field_back (λ n. n < 2 ^ 64) decimal seed_of seeds seed (decimal n ++ 32 ∷ words_text ws) h.1,
-        field_back IsWord decimal word_of words n (words_text ws) h.2, word_lists.back ws h.3) refl
+    ∙ rw (
+      field_back (λ n. n < 2 ^ 64) decimal seed_of seeds seed (decimal n ++ 32 ∷ words_text ws) h.1,
+      field_back IsWord decimal word_of words n (words_text ws) h.2,
+      word_lists.back ws h.3,
+    ) refl
 op_back (Two to b x y) h =
     from_name to (binary_text b) (operand_text x ++ 32 ∷ operand_text y) h.0 (binary_field b)
     ∙ two_named to b (operand_text x ++ 32 ∷ operand_text y)
@@ -225,17 +230,20 @@ asked_is t y e =
     let ts = field_is IsTest test_text test_of tests g.0.1 s.0 s.1 in
     let asked : Asked = record { array = a.0.0; index = i.0.0; guard = g.0.0; test = s.0.0 } in
     let same : (asked, s.0.1) ≡ y = let k = s.2 in cc in
-    subst (λ (z : Asked × List ℕ). (t ≡ asked_text z.0 z.1) × IsAsked z.0) same
-    (ta.0 ∙ ap (λ (r : List ℕ). decimal a.0.0 ++ 32 ∷ r) (ti.0 ∙ ap (λ (r : List ℕ). operand_text i.0.0 ++ 32 ∷ r) (tg.0 ∙ ap (λ (r : List ℕ). operand_text g.0.0 ++ 32 ∷ r) ts.0)),
-        record { array = ta.1; index = ti.1; guard = tg.1; test = ts.1 })
+    subst (λ (z : Asked × List ℕ). (t ≡ asked_text z.0 z.1) × IsAsked z.0) same (
+      ta.0 ∙ ap (λ (r : List ℕ). decimal a.0.0 ++ 32 ∷ r) (ti.0 ∙ ap (λ (r : List ℕ). operand_text i.0.0 ++ 32 ∷ r) (tg.0 ∙ ap (λ (r : List ℕ). operand_text g.0.0 ++ 32 ∷ r) ts.0)),
+      record { array = ta.1; index = ti.1; guard = tg.1; test = ts.1 },
+    )
 
 asked_back : (a : Asked) (rest : List ℕ) → IsAsked a → asked_of (asked_text a rest) ≡ Some (a, rest)
 unfolding asked_of
 asked_back a rest h =
-    rw (field_back IsWord decimal word_of words a.array (operand_text a.index ++ 32 ∷ (operand_text a.guard ++ 32 ∷ (test_text a.test ++ 32 ∷ rest))) h.array,
-        field_back IsOperand operand_text operand_of operands a.index (operand_text a.guard ++ 32 ∷ (test_text a.test ++ 32 ∷ rest)) h.index,
-        field_back IsOperand operand_text operand_of operands a.guard (test_text a.test ++ 32 ∷ rest) h.guard,
-        field_back IsTest test_text test_of tests a.test rest h.test) refl
+    rw (
+      field_back IsWord decimal word_of words a.array (operand_text a.index ++ 32 ∷ (operand_text a.guard ++ 32 ∷ (test_text a.test ++ 32 ∷ rest))) h.array,
+      field_back IsOperand operand_text operand_of operands a.index (operand_text a.guard ++ 32 ∷ (test_text a.test ++ 32 ∷ rest)) h.index,
+      field_back IsOperand operand_text operand_of operands a.guard (test_text a.test ++ 32 ∷ rest) h.guard,
+      field_back IsTest test_text test_of tests a.test rest h.test,
+    ) refl
 
 with_is : (a : Asked) (t : List ℕ) (x : Access) → IsAsked a → access_with a t ≡ Some x → (asked_text a t ≡ join_with_byte 32 (access_fields x)) × IsAccess x
 unfolding access_with
@@ -245,16 +253,17 @@ with_is a t x h e =
     let v = bound (field_of (list_of update_of) u.0.1) _ x u.2 in
     let o = bound (field_of word_of v.0.1) _ x v.2 in
     let i = bound (word_of o.0.1) _ x o.2 in
-    let tk = field_is (Each IsOperand) operands_text (list_of operand_of) keys t k.0 k.1 in
-    let tu = field_is (Each IsUpdate) updates_text (list_of update_of) update_lists k.0.1 u.0 u.1 in
-    let tv = field_is (Each IsUpdate) updates_text (list_of update_of) update_lists u.0.1 v.0 v.1 in
+    let tk = field_is (AllByRecursion IsOperand) operands_text (list_of operand_of) keys t k.0 k.1 in
+    let tu = field_is (AllByRecursion IsUpdate) updates_text (list_of update_of) update_lists k.0.1 u.0 u.1 in
+    let tv = field_is (AllByRecursion IsUpdate) updates_text (list_of update_of) update_lists u.0.1 v.0 v.1 in
     let to = field_is IsWord decimal word_of words v.0.1 o.0 o.1 in
     let ti = words.is o.0.1 i.0 i.1 in
     let same : record { array = a.array; index = a.index; guard = a.guard; test = a.test; key = k.0.0; yes = u.0.0; no = v.0.0; old = o.0.0; hit = i.0 } ≡ x = let z = i.2 in cc in
-    subst (λ (z : Access). (asked_text a t ≡ join_with_byte 32 (access_fields z)) × IsAccess z) same
-    (ap (asked_text a) (tk.0 ∙ ap (λ (r : List ℕ). operands_text k.0.0 ++ 32 ∷ r) (tu.0 ∙ ap (λ (r : List ℕ). updates_text u.0.0 ++ 32 ∷ r)
-        (tv.0 ∙ ap (λ (r : List ℕ). updates_text v.0.0 ++ 32 ∷ r) (to.0 ∙ ap (λ (r : List ℕ). decimal o.0.0 ++ 32 ∷ r) ti.0)))),
-        record { array = h.array; index = h.index; guard = h.guard; test = h.test; key = tk.1; yes = tu.1; no = tv.1; old = to.1; hit = ti.1 })
+    subst (λ (z : Access). (asked_text a t ≡ join_with_byte 32 (access_fields z)) × IsAccess z) same (
+      ap (asked_text a) (tk.0 ∙ ap (λ (r : List ℕ). operands_text k.0.0 ++ 32 ∷ r) (tu.0 ∙ ap (λ (r : List ℕ). updates_text u.0.0 ++ 32 ∷ r)
+          (tv.0 ∙ ap (λ (r : List ℕ). updates_text v.0.0 ++ 32 ∷ r) (to.0 ∙ ap (λ (r : List ℕ). decimal o.0.0 ++ 32 ∷ r) ti.0)))),
+      record { array = h.array; index = h.index; guard = h.guard; test = h.test; key = tk.1; yes = tu.1; no = tv.1; old = to.1; hit = ti.1 },
+    )
 
 pub access_is : (t : List ℕ) (x : Access) → access_of t ≡ Some x → (t ≡ join_with_byte 32 (access_fields x)) × IsAccess x
 unfolding access_of
@@ -264,16 +273,18 @@ access_is t x e =
     let w = with_is a.0.0 a.0.1 x ta.1 a.2 in
     (ta.0 ∙ w.0, w.1)
 
-with_back : (a : Asked) (key : List Operand) (hits misses : List Update) (old hit : ℕ) → Each IsOperand key → Each IsUpdate hits → Each IsUpdate misses → IsWord old → IsWord hit
+with_back : (a : Asked) (key : List Operand) (hits misses : List Update) (old hit : ℕ) → AllByRecursion IsOperand key → AllByRecursion IsUpdate hits → AllByRecursion IsUpdate misses → IsWord old → IsWord hit
     → access_with a (lists_text key hits misses old hit)
     ≡ Some (record { array = a.array; index = a.index; guard = a.guard; test = a.test; key = key; yes = hits; no = misses; old = old; hit = hit })
 unfolding access_with
 with_back a key hits misses old hit hk hy hn ho hh =
-    rw (field_back (Each IsOperand) operands_text (list_of operand_of) keys key (updates_text hits ++ 32 ∷ (updates_text misses ++ 32 ∷ (decimal old ++ 32 ∷ decimal hit))) hk,
-        field_back (Each IsUpdate) updates_text (list_of update_of) update_lists hits (updates_text misses ++ 32 ∷ (decimal old ++ 32 ∷ decimal hit)) hy,
-        field_back (Each IsUpdate) updates_text (list_of update_of) update_lists misses (decimal old ++ 32 ∷ decimal hit) hn,
-        field_back IsWord decimal word_of words old (decimal hit) ho,
-        words.back hit hh) refl
+    rw (
+      field_back (AllByRecursion IsOperand) operands_text (list_of operand_of) keys key (updates_text hits ++ 32 ∷ (updates_text misses ++ 32 ∷ (decimal old ++ 32 ∷ decimal hit))) hk,
+      field_back (AllByRecursion IsUpdate) updates_text (list_of update_of) update_lists hits (updates_text misses ++ 32 ∷ (decimal old ++ 32 ∷ decimal hit)) hy,
+      field_back (AllByRecursion IsUpdate) updates_text (list_of update_of) update_lists misses (decimal old ++ 32 ∷ decimal hit) hn,
+      field_back IsWord decimal word_of words old (decimal hit) ho,
+      words.back hit hh,
+    ) refl
 
 pub access_back : (x : Access) → IsAccess x → access_of (join_with_byte 32 (access_fields x)) ≡ Some x
 unfolding access_of

@@ -1,12 +1,9 @@
 -- The parts of a line are read as they are spelled, and only so.
-use Rattle.std.proofs.Common.{◌≡◌, ℕ, ◌<◌, ◌^◌, Bool, true, false, List, [], ◌∷◌, ◌++◌, Option, Some, None, refl, sym, ap, ◌∙◌, subst, arith, map, inl, inr, append_assoc}
-use Rattle.std.specs.Prelude.{option_map, option_and_then, ◌==◌, bytes_eq, codes}
-use Rattle.std.specs.List.{list_all, join_with_byte, slice_split}
-use Rattle.std.specs.Fmt.{decimal, signed_decimal}
-use Rattle.std.proofs.lemmas.Bool.{cases_Bool}
+use Rattle.std.proofs.Common.{◌≡◌, ℕ, true, false, List, [], ◌∷◌, ◌++◌, Option, Some, None, refl, sym, ap, ◌∙◌, subst, arith, inl, inr}
+use Rattle.std.specs.Prelude.{option_map, ◌==◌, bytes_eq, codes}
+use Rattle.std.specs.List.{list_all}
+use Rattle.std.specs.Fmt.{decimal}
 use Rattle.std.proofs.lemmas.Bool.Decides.{nat_tests}
-use Rattle.std.proofs.lemmas.List.{append-nil}
-use Rattle.std.proofs.lemmas.List.Splits.{join_with_byte-slice_split}
 use Rattle.std.proofs.lemmas.Slice.Eq.{bytes_eq-Decides}
 use Rattle.ch_ir.specs.declared.program.Operand.{Operand}
 use Rattle.ch_ir.specs.declared.program.Operand.TheVariants.{Word, Const}
@@ -16,14 +13,13 @@ use Rattle.ch_ir.specs.declared.program.Test.{Test}
 use Rattle.ch_ir.specs.declared.program.Test.TheVariants.{Always, KeyEq, KeyEqOrFree, Less}
 use Rattle.ch_ir.specs.declared.program.Update.{Update}
 use Rattle.ch_ir.specs.declared.program.Update.TheVariants as update
-use Rattle.ch_asm_lines.specs.Spelling.{word_text, operand_text, list_text, test_text, update_text, binary_text, with_colon}
-use Rattle.ch_asm_lines.specs.Range.{IsWord, IsOperand, IsTest, IsUpdate, Each}
+use Rattle.ch_asm_lines.specs.Spelling.{word_text, operand_text, test_text, update_text, binary_text, with_colon}
+use Rattle.ch_asm_lines.specs.Range.{IsWord, IsOperand, IsTest, IsUpdate}
 use Rattle.ch_asm_lines.specs.Numbers.{word_of, constant_of}
-use Rattle.ch_asm_lines.specs.Reading.{cut_of, listed_word_of, operand_of, each_of, list_of, test_of, test_named, update_of, update_named, binary_of, binary_among, binaries, field_of}
+use Rattle.ch_asm_lines.specs.Reading.{cut_of, listed_word_of, operand_of, test_of, test_named, update_of, update_named, binary_of, binary_among, binaries}
 use Rattle.ch_asm_lines.proofs.Options.{bound, mapped, chosen}
 use Rattle.ch_asm_lines.proofs.Digits.{word_is, word_back, constant_is, constant_back}
-use Rattle.ch_asm_lines.proofs.Bytes.{is_item_byte, is_field_byte, is_other, decimal_item, constant_item, items_are_fields, items_no_comma, fields_no_space, all_both, cut_is, cut_back, cut_none}
-use Rattle.ch_asm_lines.proofs.Lists.{split_cut, split_whole}
+use Rattle.ch_asm_lines.proofs.Bytes.{is_item_byte, is_field_byte, decimal_item, constant_item, cut_is}
 
 pub same_bytes : (a b : List ℕ) → bytes_eq a b ≡ true → a ≡ b
 same_bytes a b e = (bytes_eq-Decides a b).0 e
@@ -69,13 +65,13 @@ operand_is (b ∷ bs) a e = elim (chosen (b == 119) (option_map Word (word_of bs
       let n = word_is bs m.0 m.1 in
       subst (λ (x : Operand). (b ∷ bs ≡ operand_text x) × IsOperand x) m.2 (ap (λ x. x ∷ bs) at ∙ ap (λ xs. 119 ∷ xs) n.0, n.1)
   | inr p ↦ elim (chosen (b == 35) (option_map Const (constant_of bs)) None a p.1) [
-      | inl q ↦
-          let at : b ≡ 35 = let t = q.0 in grind (arith, nat_tests) in
-          let m = mapped Const (constant_of bs) a q.1 in
-          let n = constant_is bs m.0 m.1 in
-          subst (λ (x : Operand). (b ∷ bs ≡ operand_text x) × IsOperand x) m.2 (ap (λ x. x ∷ bs) at ∙ ap (λ xs. 35 ∷ xs) n.0, n.1)
-      | inr q ↦ let wrong = q.1 in cc
-    ]
+    | inl q ↦
+        let at : b ≡ 35 = let t = q.0 in grind (arith, nat_tests) in
+        let m = mapped Const (constant_of bs) a q.1 in
+        let n = constant_is bs m.0 m.1 in
+        subst (λ (x : Operand). (b ∷ bs ≡ operand_text x) × IsOperand x) m.2 (ap (λ x. x ∷ bs) at ∙ ap (λ xs. 35 ∷ xs) n.0, n.1)
+    | inr q ↦ let wrong = q.1 in cc
+  ]
 ]
 
 operand_back : (a : Operand) → IsOperand a → operand_of (operand_text a) ≡ Some a
@@ -101,14 +97,14 @@ test_named_is name n test h e = elim (chosen (bytes_eq name (codes "keyeq")) (So
   | inl p ↦ let same : KeyEq n ≡ test = let k = p.1 in cc in
       subst (λ (x : Test). (with_colon name (decimal n) ≡ test_text x) × IsTest x) same (ap (λ xs. with_colon xs (decimal n)) (same_bytes name (codes "keyeq") p.0), h)
   | inr p ↦ elim (chosen (bytes_eq name (codes "keyorfree")) (Some (KeyEqOrFree n)) _ test p.1) [
-      | inl q ↦ let same : KeyEqOrFree n ≡ test = let k = q.1 in cc in
-          subst (λ (x : Test). (with_colon name (decimal n) ≡ test_text x) × IsTest x) same (ap (λ xs. with_colon xs (decimal n)) (same_bytes name (codes "keyorfree") q.0), h)
-      | inr q ↦ elim (chosen (bytes_eq name (codes "less")) (Some (Less n)) None test q.1) [
-          | inl r ↦ let same : Less n ≡ test = let k = r.1 in cc in
-              subst (λ (x : Test). (with_colon name (decimal n) ≡ test_text x) × IsTest x) same (ap (λ xs. with_colon xs (decimal n)) (same_bytes name (codes "less") r.0), h)
-          | inr r ↦ let wrong = r.1 in cc
-        ]
+    | inl q ↦ let same : KeyEqOrFree n ≡ test = let k = q.1 in cc in
+        subst (λ (x : Test). (with_colon name (decimal n) ≡ test_text x) × IsTest x) same (ap (λ xs. with_colon xs (decimal n)) (same_bytes name (codes "keyorfree") q.0), h)
+    | inr q ↦ elim (chosen (bytes_eq name (codes "less")) (Some (Less n)) None test q.1) [
+      | inl r ↦ let same : Less n ≡ test = let k = r.1 in cc in
+          subst (λ (x : Test). (with_colon name (decimal n) ≡ test_text x) × IsTest x) same (ap (λ xs. with_colon xs (decimal n)) (same_bytes name (codes "less") r.0), h)
+      | inr r ↦ let wrong = r.1 in cc
     ]
+  ]
 ]
 
 test_is : (t : List ℕ) (test : Test) → test_of t ≡ Some test → (t ≡ test_text test) × IsTest test
@@ -158,24 +154,24 @@ named_here name text u v t e = record { named = same_bytes name text t; same = c
 
 update_named_is : (name : List ℕ) (a : Operand) (u : Update) → IsOperand a → update_named name a ≡ Some u → (with_colon name (operand_text a) ≡ update_text u) × IsUpdate u
 update_named_is name a u h e =
-  let Goal : Update → Type 0 = λ v. (with_colon name (operand_text a) ≡ update_text v) × IsUpdate v in
-  let behind = λ (text : List ℕ). λ (e : name ≡ text). ap (λ xs. with_colon xs (operand_text a)) e in
-  elim (chosen (bytes_eq name (codes "put")) (Some (update.Put a)) _ u e) [
-    | inl p ↦ let n = named_here name (codes "put") (update.Put a) u p.0 p.1 in subst Goal n.same (behind (codes "put") n.named, h)
-    | inr p ↦ elim (chosen (bytes_eq name (codes "addsat")) (Some (update.AddSat a)) _ u p.1) [
+    let Goal : Update → Type 0 = λ v. (with_colon name (operand_text a) ≡ update_text v) × IsUpdate v in
+    let behind = λ (text : List ℕ). λ (e : name ≡ text). ap (λ xs. with_colon xs (operand_text a)) e in
+    elim (chosen (bytes_eq name (codes "put")) (Some (update.Put a)) _ u e) [
+      | inl p ↦ let n = named_here name (codes "put") (update.Put a) u p.0 p.1 in subst Goal n.same (behind (codes "put") n.named, h)
+      | inr p ↦ elim (chosen (bytes_eq name (codes "addsat")) (Some (update.AddSat a)) _ u p.1) [
         | inl q ↦ let n = named_here name (codes "addsat") (update.AddSat a) u q.0 q.1 in subst Goal n.same (behind (codes "addsat") n.named, h)
         | inr q ↦ elim (chosen (bytes_eq name (codes "min")) (Some (update.Min a)) _ u q.1) [
-            | inl r ↦ let n = named_here name (codes "min") (update.Min a) u r.0 r.1 in subst Goal n.same (behind (codes "min") n.named, h)
-            | inr r ↦ elim (chosen (bytes_eq name (codes "max")) (Some (update.Max a)) _ u r.1) [
-                | inl s ↦ let n = named_here name (codes "max") (update.Max a) u s.0 s.1 in subst Goal n.same (behind (codes "max") n.named, h)
-                | inr s ↦ elim (chosen (bytes_eq name (codes "or")) (Some (update.Or a)) None u s.1) [
-                    | inl o ↦ let n = named_here name (codes "or") (update.Or a) u o.0 o.1 in subst Goal n.same (behind (codes "or") n.named, h)
-                    | inr o ↦ let wrong = o.1 in cc
-                  ]
-              ]
+          | inl r ↦ let n = named_here name (codes "min") (update.Min a) u r.0 r.1 in subst Goal n.same (behind (codes "min") n.named, h)
+          | inr r ↦ elim (chosen (bytes_eq name (codes "max")) (Some (update.Max a)) _ u r.1) [
+            | inl s ↦ let n = named_here name (codes "max") (update.Max a) u s.0 s.1 in subst Goal n.same (behind (codes "max") n.named, h)
+            | inr s ↦ elim (chosen (bytes_eq name (codes "or")) (Some (update.Or a)) None u s.1) [
+              | inl o ↦ let n = named_here name (codes "or") (update.Or a) u o.0 o.1 in subst Goal n.same (behind (codes "or") n.named, h)
+              | inr o ↦ let wrong = o.1 in cc
+            ]
           ]
+        ]
       ]
-  ]
+    ]
 
 update_is : (t : List ℕ) (u : Update) → update_of t ≡ Some u → (t ≡ update_text u) × IsUpdate u
 unfolding update_of

@@ -1,6 +1,7 @@
 -- The ranges of the numbers of a line, which are those of their types.
-use Rattle.std.specs.Prelude.{ℕ, ◌<◌, ◌^◌, List, [], ◌∷◌, FitsSigned}
+use Rattle.std.specs.Prelude.{ℕ, ◌<◌, ◌^◌, FitsSigned}
 use Rattle.std.specs.Int.{w64}
+use Rattle.std.specs.List.{AllByRecursion}
 use Rattle.ch_ir.specs.declared.program.Operand.{Operand}
 use Rattle.ch_ir.specs.declared.program.Operand.TheVariants.{Word, Const}
 use Rattle.ch_ir.specs.declared.program.Op.{Op}
@@ -22,10 +23,6 @@ abbrev pub IsOperand : Operand → Type 0
 IsOperand (Word w) = IsWord w
 IsOperand (Const c) = FitsSigned w64 c
 
-abbrev pub Each : {X : Type 0} → (X → Type 0) → List X → Type 0
-Each P [] = Unit {0}
-Each P (x ∷ xs) = P x × Each P xs
-
 abbrev pub IsTest : Test → Type 0
 IsTest Always = Unit {0}
 IsTest (KeyEq n) = IsWord n
@@ -45,16 +42,16 @@ IsOp (Set to a) = IsWord to × IsOperand a
 IsOp (Two to b x y) = IsWord to × IsOperand x × IsOperand y
 IsOp (Bit to a) = IsWord to × IsOperand a
 IsOp (Pick to a x y) = IsWord to × IsOperand a × IsOperand x × IsOperand y
-IsOp (Hash to seed n words) = IsWord to × (seed < 2 ^ 64) × IsWord n × Each IsWord words
+IsOp (Hash to seed n words) = IsWord to × (seed < 2 ^ 64) × IsWord n × AllByRecursion IsWord words
 
 pub record IsAccess (x : Access) : Type 0 where
   pub array : IsWord x.array
   pub index : IsOperand x.index
   pub guard : IsOperand x.guard
   pub test : IsTest x.test
-  pub key : Each IsOperand x.key
-  pub yes : Each IsUpdate x.yes
-  pub no : Each IsUpdate x.no
+  pub key : AllByRecursion IsOperand x.key
+  pub yes : AllByRecursion IsUpdate x.yes
+  pub no : AllByRecursion IsUpdate x.no
   pub old : IsWord x.old
   pub hit : IsWord x.hit
 

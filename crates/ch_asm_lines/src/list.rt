@@ -1,6 +1,6 @@
 ghost use Rattle.std.specs.Prelude.{◌≡◌, ◌++◌, OnOk, map};
+ghost use Rattle.std.specs.List.{AllByRecursion};
 ghost use Rattle.ch_asm_lines.specs.Spelling.{list_text};
-ghost use Rattle.ch_asm_lines.specs.Range.{Each};
 ghost use Rattle.ch_asm_lines.specs.Reading.{Gives, GivesBy, list_of, field_of};
 
 use crate::first_cut::cut;
@@ -130,7 +130,7 @@ pub(crate) fn list_field<T: Item>(
 /// Writes a list at the end: its items with `,` between them, and `-` where there are none.
 pub(crate) fn push_list<T: Item>(text: &mut Vec<u8>, items: &[T]) -> Result<(), Memory>
     ensures text { OnOk result (text.new.items ≡ text.old.items ++ list_text (map T.text_of items.now)) }
-    ensures fits { OnOk result (Each T.fits items.now) }
+    ensures fits { OnOk result (AllByRecursion T.fits items.now) }
 {
     match items {
         [] => text.push(b'-')?,

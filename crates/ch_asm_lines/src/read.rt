@@ -5,9 +5,7 @@ use crate::first_cut::cut;
 use crate::line::{Line, LineError};
 use crate::list::{list_field, read_list};
 use crate::number::read_word;
-use crate::part::{
-    operand_field, read_binary, read_operand, seed_field, test_field, word_field,
-};
+use crate::part::{operand_field, read_binary, read_operand, seed_field, test_field, word_field};
 use ch_ir::{Access, Array, Op, Operand, Test};
 use std::alloc::Global;
 

@@ -1,9 +1,9 @@
-//! Each function writes at the end of the text.
+//! AllByRecursion function writes at the end of the text.
 ghost use Rattle.std.specs.Prelude.{◌≡◌, ◌++◌, ◌∷◌, [], OnOk};
-ghost use Rattle.std.specs.List.{join_with_byte};
+ghost use Rattle.std.specs.List.{join_with_byte, AllByRecursion};
 ghost use Rattle.std.specs.Fmt.{decimal};
 ghost use Rattle.ch_asm_lines.specs.Spelling.{operand_text, test_text, operands_text, updates_text, op_fields, access_fields, array_fields, line_text, ended};
-ghost use Rattle.ch_asm_lines.specs.Range.{IsWord, IsOp, IsAccess, IsArray, IsLine, IsOperand, IsTest, Each, IsUpdate};
+ghost use Rattle.ch_asm_lines.specs.Range.{IsWord, IsOp, IsAccess, IsArray, IsLine, IsOperand, IsTest, IsUpdate};
 ghost use Rattle.ch_asm_lines.specs.Lent.{lent_line};
 
 use crate::list::push_list;
@@ -93,9 +93,9 @@ fn push_asked(text: &mut Vec<u8>, access: &Access) -> Result<(), Memory>
 fn push_lists(text: &mut Vec<u8>, access: &Access) -> Result<(), Memory>
     ensures text { OnOk result (text.new.items ≡ text.old.items ++ operands_text access.now.key ++ 32 ∷ (updates_text access.now.yes
         ++ 32 ∷ (updates_text access.now.no ++ 32 ∷ []))) }
-    ensures key { OnOk result (Each IsOperand access.now.key) }
-    ensures yes { OnOk result (Each IsUpdate access.now.yes) }
-    ensures no { OnOk result (Each IsUpdate access.now.no) }
+    ensures key { OnOk result (AllByRecursion IsOperand access.now.key) }
+    ensures yes { OnOk result (AllByRecursion IsUpdate access.now.yes) }
+    ensures no { OnOk result (AllByRecursion IsUpdate access.now.no) }
 {
     push_list(text, access.key.as_slice())?;
     text.push(b' ')?;

@@ -1,11 +1,9 @@
-use Rattle.std.proofs.Common.{◌≡◌, ◌<◌, ℕ, ◌+◌, List, [], ◌∷◌, ◌++◌, length, refl, sym, ap, ◌∙◌, arith, subst}
+use Rattle.std.proofs.Common.{◌≡◌, ◌<◌, ℕ, ◌+◌, List, [], ◌∷◌, length, refl, sym, ap, ◌∙◌, arith, subst}
 use Rattle.std.proofs.lemmas.Result.{err_from_is_err_and}
 use Rattle.std.proofs.lemmas.Bool.Decides.{nat_tests}
 use Rattle.ch_ir.specs.declared.program.Program.{Program}
 use Rattle.ch_asm.specs.declared.place.Place.{Place}
 use Rattle.ch_asm.specs.declared.place.Place.TheVariants.{Ended}
-use Rattle.ch_asm.specs.declared.error.AsmError.TheVariants as error
-use Rattle.ch_asm.specs.Refusal.{IsBadLine}
 use Rattle.ch_asm.specs.Text.{program_text, IsProgram}
 use Rattle.ch_asm.proofs.Places.{said}
 use Rattle.ch_asm.proofs.Reading.{IsRead, one_more, bad_end, step_refuses, refused_only, read_whole}
@@ -24,14 +22,14 @@ pub returns-in_err-place-clause-refused : goal.returns-in_err-place-clause-refus
 returns-in_err-place-clause-refused c =
     let p = err_from_is_err_and c.from_residual.result c.from_residual.ensures.1 in
     rw (p.1, p.2) (step_refuses c.args.text.now c.loop-first.place c.in-Some.first.now c.in-Some.more.now c.loop-first.rest.now c.loop-first.line c.in_err-place.field-0.0
-        c.loop-first.invariant.read c.in-Some.ensures.parts c.loop-first.invariant.line c.in_err-place.ensures)
+    c.loop-first.invariant.read c.in-Some.ensures.parts c.loop-first.invariant.line c.in_err-place.ensures)
 
 pub returns-in_err-place-clause-only : goal.returns-in_err-place-clause-only
 returns-in_err-place-clause-only c program h e =
     let p = err_from_is_err_and c.from_residual.result c.from_residual.ensures.1 in
     rw (p.1, p.2) (refused_only c.args.text.now c.in_err-place.field-0.0
-        (step_refuses c.args.text.now c.loop-first.place c.in-Some.first.now c.in-Some.more.now c.loop-first.rest.now c.loop-first.line c.in_err-place.field-0.0
-            c.loop-first.invariant.read c.in-Some.ensures.parts c.loop-first.invariant.line c.in_err-place.ensures) program h e)
+    (step_refuses c.args.text.now c.loop-first.place c.in-Some.first.now c.in-Some.more.now c.loop-first.rest.now c.loop-first.line c.in_err-place.field-0.0
+    c.loop-first.invariant.read c.in-Some.ensures.parts c.loop-first.invariant.line c.in_err-place.ensures) program h e)
 
 pub returns-then-not-is_empty-clause-refused : goal.returns-then-not-is_empty-clause-refused
 returns-then-not-is_empty-clause-refused c =

@@ -1,4 +1,4 @@
-use Rattle.std.proofs.Common.{◌≡◌, ◌∙◌, ap, sym, List, ℕ, Some, take, drop, ◌+◌}
+use Rattle.std.proofs.Common.{◌∙◌, ap, sym, List, ℕ, Some, take, ◌+◌}
 use Rattle.ch_asm_lines.proofs.Cuts.{cut_more, cut_met, cut_end, take-rest}
 use Rattle.ch_asm_lines.proofs.first_cut.cut.Goals as goal
 

@@ -1,5 +1,5 @@
-use Rattle.std.proofs.Common.{◌≡◌, ◌-◌, List, ◌∷◌, length, take, drop, sym, subst}
-use Rattle.ch_asm_lines.specs.Range.{Each}
+use Rattle.std.proofs.Common.{◌-◌, List, length, take, drop, sym, subst}
+use Rattle.std.specs.List.{AllByRecursion}
 use Rattle.ch_asm_lines.proofs.Joins.{parted, begun}
 use Rattle.ch_asm_lines.proofs.list.push_list.Goals as goal
 
@@ -10,5 +10,5 @@ loop-item-init g c =
     let parts = parted items c.first-item.result c.in-len1-up.len_at_least c.first-item.is in
     record {
       text = begun g.T.Item.text_of c.args.text.now.items c.push-in-len1-up.new.text.items items rest c.first-item.result parts c.in_ok-push-in-len1-up.ensures.text;
-      fits = λ h. subst (λ (xs : List g.row.T.Denot). Each g.T.Item.fits xs) (sym parts) (c.in_ok-push-in-len1-up.ensures.fits, h);
+      fits = λ h. subst (λ (xs : List g.row.T.Denot). AllByRecursion g.T.Item.fits xs) (sym parts) (c.in_ok-push-in-len1-up.ensures.fits, h);
     }
