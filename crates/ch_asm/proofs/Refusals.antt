@@ -149,17 +149,26 @@ at_end place text rest p h whole inner hp e =
     let walked : Some (Ended p) ≡ Some place = sym (program_walks p hp) ∙ ap (walk_texts Start) same.0 ∙ place_walks place h in
     (cc, sym same.1)
 
+-- the parts of a text with a bad line
+pub split_bad : (text : List ℕ) (n : ℕ) (bad : IsBadLine text n) → slice_split (λ b. b == 10) text ≡ bad.before ++ slice_split (λ b. b == 10) bad.rest
+split_bad text n bad =
+    let inner : AllByRecursion IsInner bad.before =
+    each_front IsInner bad.before bad.begins.others
+    (subst (λ (ts : List (List ℕ)). AllByRecursion IsInner ts) bad.begins.whole (program_inner bad.begins.program bad.begins.is_program)) in
+    ap (slice_split (λ b. b == 10)) bad.whole ∙ split_lines bad.before bad.rest inner
+
 -- a text with a bad line is no program's
 pub bad_is_none : (text : List ℕ) (n : ℕ) (p : Program) → IsBadLine text n → IsProgram p → text ≡ program_text p → ⊥
 bad_is_none text n p bad hp e = elim bad.ends [
   | inl other ↦
       let before : List (List ℕ) = bad.before in
-      let inner : AllByRecursion IsInner before = each_front IsInner before bad.begins.others (subst (λ (ts : List (List ℕ)). AllByRecursion IsInner ts) bad.begins.whole (program_inner bad.begins.program bad.begins.is_program)) in
       let tail : List (List ℕ) = slice_split (λ b. b == 10) other.more in
       let parts : program_lines p ++ [] ∷ [] ≡ (before ++ other.line ∷ []) ++ tail =
-      sym (split_program p hp) ∙ ap (slice_split (λ b. b == 10)) (sym e ∙ bad.whole) ∙ split_lines before bad.rest inner
+      sym (split_program p hp) ∙ ap (slice_split (λ b. b == 10)) (sym e) ∙ split_bad text n bad
       ∙ ap (λ (t : List ℕ). before ++ slice_split (λ b. b == 10) t) other.comes
-      ∙ ap (λ (ts : List (List ℕ)). before ++ ts) (split_cut 10 (other.line ++ 10 ∷ other.more) (other.line, other.more) (cut_back 10 other.line other.more other.inner))
+      ∙ ap
+      (λ (ts : List (List ℕ)). before ++ ts)
+      (split_cut 10 (other.line ++ 10 ∷ other.more) (other.line, other.more) (cut_back 10 other.line other.more other.inner))
       ∙ sym (append_assoc before (other.line ∷ []) tail) in
       let goes = front_goes_on (program_lines p) (before ++ other.line ∷ []) tail [] parts (split_some 10 other.more) in
       other.begins_none (record { program = p; is_program = hp; others = goes.0; whole = goes.1 })
