@@ -4,3 +4,4 @@ pub mod Walks
 pub mod Refusals
 pub mod BadLines
 pub mod Reading
+pub mod Decided
