@@ -1,0 +1,4 @@
+pub mod Inner
+pub mod Leading
+pub mod Results
+pub mod Stepping
