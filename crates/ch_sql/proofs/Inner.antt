@@ -11,7 +11,7 @@ use Rattle.ch_grammar.specs.declared.head.HeadStep.{HeadStep}
 use Rattle.ch_grammar.specs.declared.head.HeadStep.TheVariants as headstep
 use Rattle.ch_grammar.specs.declared.head.HeadTaker.{HeadTaker}
 use Rattle.ch_grammar.specs.declared.head.HeadTaker.TheVariants as taker
-use Rattle.ch_grammar.specs.HeadSteps.{name_given, step_of, end_of}
+use Rattle.ch_grammar.specs.HeadSteps.{name_given, step_of}
 use Rattle.ch_grammar.specs.Tokens.{has_mark, name_in}
 use Rattle.ch_places.specs.Machine.{is_semi}
 use Rattle.ch_sql.specs.Behind.{takes_inner, is_inner}
@@ -20,10 +20,6 @@ abbrev pub StaysInner : HeadStep → Type 0
 StaysInner (headstep.On next) = is_inner next ≡ true
 StaysInner (headstep.Done h) = is_semi h.source ≡ true
 StaysInner headstep.Stuck = Unit {0}
-
-abbrev pub EndsInner : Option Head → Type 0
-EndsInner (Some h) = is_semi h.source ≡ true
-EndsInner None = Unit {0}
 
 either_stays : (b : Bool) (s r : HeadStep) → StaysInner s → StaysInner r → StaysInner (if b then s else r)
 either_stays true s r p q = p
@@ -55,17 +51,3 @@ stays (head.InnerTable items outer key inner_key) t h = table_stays items outer 
 stays (head.InnerClose items outer key inner_key inner) t h = either_stays (has_mark mark.RightParen t) _ _ refl tt
 stays (head.Whole g) t h = h
 stays p t h = cc
-
-name_ends : (taken : HeadTaker) (n : List ℕ) → takes_inner taken ≡ true → EndsInner (end_of (head.Name taken n))
-name_ends (taker.InnerKey items outer key) n h = tt
-name_ends taken n h = cc
-
-pub ends : (p : HeadPlace) → is_inner p ≡ true → EndsInner (end_of p)
-ends (head.Taking taken) h = tt
-ends (head.Name taken n) h = name_ends taken n h
-ends (head.Dot taken n) h = tt
-ends (head.InnerFrom items outer key inner_key) h = tt
-ends (head.InnerTable items outer key inner_key) h = tt
-ends (head.InnerClose items outer key inner_key inner) h = tt
-ends (head.Whole g) h = h
-ends p h = cc
