@@ -4,7 +4,6 @@ use Rattle.ch_grammar.specs.declared.tok.Mark.TheVariants as mark
 use Rattle.ch_grammar.specs.declared.tok.Tok.{Tok}
 use Rattle.ch_grammar.specs.declared.query.ColumnRef.{ColumnRef}
 use Rattle.ch_grammar.specs.declared.query.Item.{Item}
-use Rattle.ch_grammar.specs.declared.head.Head.{Head}
 use Rattle.ch_grammar.specs.declared.head.HeadPlace.{HeadPlace}
 use Rattle.ch_grammar.specs.declared.head.HeadPlace.TheVariants as head
 use Rattle.ch_grammar.specs.declared.head.HeadStep.{HeadStep}
