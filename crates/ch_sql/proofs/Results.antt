@@ -8,8 +8,9 @@ use Rattle.ch_grammar.specs.declared.query.Query.{Query}
 use Rattle.ch_grammar.specs.Tree.{Select, select_of}
 use Rattle.ch_places.specs.Machine.{parse_from, start}
 use Rattle.ch_places.specs.Parsing.{parse_at, Moves}
-use Rattle.ch_places.proofs.Viable.{read_derived}
 use Rattle.ch_places.proofs.Refused.{refusals}
+use Rattle.ch_limits.specs.Limits.{IsQueryWithin}
+use Rattle.ch_limits.proofs.Within.{within_read, read_within}
 use Rattle.ch_sql.specs.Parsed.{seen, IsParsed, IsParseError, Parses}
 
 abbrev Answered : List Tok → Result Query ParseError → Type 0
@@ -20,7 +21,7 @@ seen_answered toks tokens r same m = let P : List Tok → Type 0 = λ ts. Answer
 
 parsed_so : (tokens : List Token) (r : Result Query ParseError) → Answered (seen tokens) r → IfOk r (IsParsed tokens)
 unfolding parse_at
-parsed_so tokens (Ok q) m = record { derived = read_derived (seen tokens) (select_of q) m; taken = m }
+parsed_so tokens (Ok q) m = record { derived = read_within (seen tokens) (select_of q) m; taken = m }
 parsed_so tokens (Err e) m = tt
 
 refused_so : (tokens : List Token) (r : Result Query ParseError) → Answered (seen tokens) r → IfErr r (IsParseError tokens)
@@ -43,5 +44,5 @@ parsed toks tokens r same m = parsed_so tokens r (seen_answered toks tokens r sa
 pub refused : (toks : List Tok) (tokens : List Token) (r : Result Query ParseError) → toks ≡ seen tokens → Answered toks r → IfErr r (IsParseError tokens)
 refused toks tokens r same m = refused_so tokens r (seen_answered toks tokens r same m)
 
-pub only : (toks : List Tok) (tokens : List Token) (r : Result Query ParseError) → toks ≡ seen tokens → Answered toks r → (tree : Select) → parse_from start 0 (seen tokens) ≡ Ok tree → Parses tree r
-only toks tokens r same m tree is = only_so tokens r tree is (seen_answered toks tokens r same m)
+pub only : (toks : List Tok) (tokens : List Token) (r : Result Query ParseError) → toks ≡ seen tokens → Answered toks r → (tree : Select) → IsQueryWithin (seen tokens) tree → Parses tree r
+only toks tokens r same m tree is = only_so tokens r tree (within_read (seen tokens) tree is) (seen_answered toks tokens r same m)

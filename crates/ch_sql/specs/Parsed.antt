@@ -7,21 +7,21 @@ use Rattle.ch_grammar.specs.declared.error.ParseError.{ParseError}
 use Rattle.ch_grammar.specs.declared.error.ParseError.TheVariants as error
 use Rattle.ch_grammar.specs.Tokens.{tok_of}
 use Rattle.ch_grammar.specs.Tree.{Select, select_of}
-use Rattle.ch_grammar.specs.Grammar.{IsQuery}
 use Rattle.ch_places.specs.Machine.{parse_from, start}
 use Rattle.ch_places.specs.Parsing.{Fails}
 use Rattle.ch_places.specs.Refusal.{IsRefusal}
+use Rattle.ch_limits.specs.Limits.{IsQueryWithin}
 
 -- the tokens as the grammar sees them
 abbrev pub seen : List Token → List Tok
 seen tokens = map tok_of tokens
 
--- the tokens derive the query, and no limit refuses one of them
+-- the tokens derive the query within the limits, and by the places they give it
 pub record IsParsed (tokens : List Token) (q : Query) : Type 0 where
-  pub derived : IsQuery (seen tokens) (select_of q)
+  pub derived : IsQueryWithin (seen tokens) (select_of q)
   pub taken : parse_from start 0 (seen tokens) ≡ Ok (select_of q)
 
--- the refusal is the first one, in words of the grammar and the limits, and by the places
+-- the refusal is the first one, and by the places they give it
 pub record IsParseError (tokens : List Token) (e : ParseError) : Type 0 where
   pub first : IsRefusal (seen tokens) e
   pub answered : Fails (parse_from start 0 (seen tokens)) e

@@ -1,6 +1,7 @@
 ghost use Rattle.std.specs.Prelude.{◌≡◌, IfErr, IfOk, Ok};
 ghost use Rattle.ch_grammar.specs.Tree.{Select, select_of};
-ghost use Rattle.ch_places.specs.Machine.{parse_from, start};
+ghost use Rattle.ch_limits.specs.Limits.{IsQueryWithin};
+ghost use Rattle.ch_places.specs.Machine.{start};
 ghost use Rattle.ch_places.specs.Parsing.{parse_at, Moves};
 ghost use Rattle.ch_sql.specs.Parsed.{seen, IsParsed, IsParseError, Parses};
 
@@ -30,12 +31,12 @@ fn query(alloc: Global, tokens: &[Tok]) -> Result<Query, ParseError>
 
 /// The query that the tokens are, with or without a semicolon.
 pub fn parse(alloc: Global, tokens: &Listed<Token>) -> Result<Query, ParseError>
-    // Read is the one query that the tokens derive, within the limits.
+    // Read is the one query that the tokens derive within the limits.
     ensures found { IfOk result (IsParsed tokens.now) }
     // The first token at which a refusal holds decides, and there `Syntax` goes before the others.
     ensures refused { IfErr result (IsParseError tokens.now) }
-    // What the tokens give within the limits is read, unless memory runs out.
-    ensures only { (tree : Select) → parse_from start 0 (seen tokens.now) ≡ Ok tree → Parses tree result }
+    // What they derive within the limits is read, unless memory runs out.
+    ensures only { (tree : Select) → IsQueryWithin (seen tokens.now) tree → Parses tree result }
 {
     let toks = toks_of(alloc, tokens.as_slice())?;
     query(alloc, toks.as_slice())
