@@ -2,3 +2,4 @@ pub mod Inner
 pub mod Leading
 pub mod Results
 pub mod Stepping
+mod RoundTrip

@@ -1,16 +1,19 @@
-//! The query language as its callers need it: the tokens of a text, the query that they are, and its
-//! types.
+//! The query language as its callers need it: the tokens of a text, the query that they are, its text,
+//! and its types.
 #![tactic(auto)]
 
 mod behind;
 mod heads;
+mod laws;
 mod parser;
 
 pub use ch_grammar::{
     Agg, ColumnRef, Having, Item, ParseError, Pred, Query, Side, SkyDim, Source, Tail,
 };
 pub use ch_pred::{Cmp, Literal};
+pub use ch_query_text::print;
 pub use ch_tokens::{LexError, Symbol, Token, lex};
+pub use laws::{lexed_tokens_are_tokens, printed_queries_are_read_again};
 pub use parser::parse;
 
 #[cfg(test)]

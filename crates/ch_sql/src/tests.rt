@@ -1,8 +1,9 @@
 use crate::parser::parse;
 use crate::{
     Agg, Cmp, ColumnRef, Having, Item, Literal, ParseError, Pred, Query, Side, SkyDim, Source,
-    Tail, lex,
+    Tail, lex, print,
 };
+use ch_cells::Bytes;
 use std::alloc::Global;
 use std::process::Abort;
 use std::test::Fail;
@@ -608,4 +609,50 @@ fn patterns_are_prefixes(rt: HostRuntime) -> Result<(), Fail> {
         shows(&rt, rt.alloc(), text, 'l', at)?;
     }
     Ok(())
+}
+
+/// The printed text of the query that a text is.
+fn printed(alloc: Global, text: &[u8]) -> Result<Bytes, Fail> {
+    let tokens = lex(alloc, text)?;
+    let query = parse(alloc, &tokens)?;
+    Ok(print(alloc, &query)?)
+}
+
+/// The text's query is printed so, and that text's query too.
+fn prints(rt: &impl Abort, alloc: Global, text: &str, want: &str) -> Result<(), Fail> {
+    let once = printed(alloc, text.as_bytes())?;
+    assert_eq!(rt; once.as_slice(), want.as_bytes());
+    let again = printed(alloc, once.as_slice())?;
+    assert_eq!(rt; again.as_slice(), want.as_bytes());
+    Ok(())
+}
+
+#[test]
+fn filters_are_printed_and_read_again(rt: HostRuntime) -> Result<(), Fail> {
+    let alloc = rt.alloc();
+    let text = "select \"a\" from t where not(b<=3 or c in(1,2));";
+    let want = "SELECT a FROM t WHERE NOT (b <= 3 OR c IN (1, 2))";
+    prints(&rt, alloc, text, want)?;
+    let text = "SELECT DISTINCT * , t.b FROM t WHERE ((a=1)) or b<>'it''s'";
+    let want = "SELECT DISTINCT *, t.b FROM t WHERE a = 1 OR b <> 'it''s'";
+    prints(&rt, alloc, text, want)?;
+    let same = "SELECT a FROM t WHERE k IN (SELECT j FROM u) AND (b > 1 OR c LIKE 'x%')";
+    prints(&rt, alloc, same, same)?;
+    let names = "SELECT \"select\", \"a\"\"b\", \"x y\" FROM \"from\"";
+    prints(&rt, alloc, names, names)
+}
+
+#[test]
+fn heads_and_tails_are_printed_and_read_again(rt: HostRuntime) -> Result<(), Fail> {
+    let alloc = rt.alloc();
+    let text = "select max( a ),min(t.b),k from t group by k having sum(v) > -5";
+    let want = "SELECT MAX(a), MIN(t.b), k FROM t GROUP BY k HAVING SUM(v) > -5";
+    prints(&rt, alloc, text, want)?;
+    let text = "select a from t order by b asc limit 3";
+    prints(&rt, alloc, text, "SELECT a FROM t ORDER BY b LIMIT 3")?;
+    let text = "select a from t skyline of b max,c min";
+    prints(&rt, alloc, text, "SELECT a FROM t SKYLINE OF b MAX, c MIN")?;
+    let text = "select a from t join u on t.k=u.k where a between 1 and 2";
+    let want = "SELECT a FROM t JOIN u ON t.k = u.k WHERE a BETWEEN 1 AND 2";
+    prints(&rt, alloc, text, want)
 }
