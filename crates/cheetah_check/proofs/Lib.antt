@@ -1,0 +1,5 @@
+mod Misspellings
+mod Outcomes
+mod Short
+mod Stops
+mod Usages

@@ -1,0 +1,14 @@
+//! The command that checks a program text: from its words and files to what it writes and its status.
+#![tactic(auto)]
+
+mod laws;
+mod lines;
+mod top;
+mod verdict;
+mod words;
+
+pub use laws::outcomes_are_one;
+pub use top::cheetah_check;
+
+#[cfg(test)]
+mod tests;
