@@ -10,7 +10,7 @@ use Rattle.ch_pred.specs.declared.Literal.TheVariants as literal
 use Rattle.ch_pred.specs.declared.Printed.TheVariants as print
 use Rattle.ch_tables.specs.TableValue.{TableValue}
 use Rattle.cheetah.specs.Binding.{bound_at, column_at, is_no_text, is_numeric}
-use Rattle.cheetah.specs.Query.{PlainQuery}
+use Rattle.cheetah.specs.Plain.{PlainQuery}
 use Rattle.cheetah.specs.Selection.{FitsTable, HasColumn}
 
 pub fits_table : (q : PlainQuery) (table : TableValue) (printed tested : ℕ) → printed < length table.header → tested < length table.header

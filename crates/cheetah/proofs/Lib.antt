@@ -1,3 +1,4 @@
 pub mod Bindings
+mod Comings
+mod Outcomes
 pub mod Selections
-pub mod Tokens

@@ -11,7 +11,7 @@ use Rattle.ch_pred.specs.declared.Literal.TheVariants as literal
 use Rattle.ch_pred.specs.declared.Printed.TheVariants as print
 use Rattle.ch_pred.specs.declared.Shape.TheVariants as shape
 use Rattle.ch_tables.specs.TableValue.{TableValue}
-use Rattle.cheetah.specs.Query.{PlainQuery}
+use Rattle.cheetah.specs.Plain.{PlainQuery}
 
 -- the place of the first name that is this one, where they are numbered from at
 abbrev pub place_from : ℕ → List (List ℕ) → List ℕ → Option ℕ

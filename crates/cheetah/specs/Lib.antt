@@ -1,6 +1,7 @@
+pub mod Answering
 pub mod Binding
-pub mod Evaluation
-pub mod Query
+pub mod Lines
+pub mod Plain
 pub mod Result
 pub mod Selection
 pub mod Words

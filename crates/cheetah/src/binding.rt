@@ -1,9 +1,9 @@
 ghost use Rattle.std.specs.Prelude.{◌≡◌, ◌<◌, ◌^◌, ◌∷◌, [], All, IfOk, IfSome, length, map, slice_index_or};
 ghost use Rattle.cheetah.specs.Binding.{ascending_places, bound_at, bound_of, is_no_text, is_numeric, place_of};
-ghost use Rattle.cheetah.specs.Query.{query_of};
+ghost use Rattle.cheetah.specs.Plain.{query_of};
 ghost use Rattle.cheetah.specs.Selection.{FitsTable};
 
-use crate::query::Selected;
+use crate::plain::Selected;
 use ch_cells::{Bytes, Header, Kind, Listed, Memory};
 use ch_pred::{Arg, Bound, BoundPred, Col, Literal, Printed, Shape};
 use ch_tables::Table;

@@ -1,16 +1,19 @@
-ghost use Rattle.std.specs.Prelude.{◌≡◌, ◌≤◌, ◌↔◌, ◌∷◌, [], IfOk, IsTrue, length, option_map};
-ghost use Rattle.ch_print.specs.AnswerText.{text_of};
-ghost use Rattle.cheetah.specs.Binding.{bound_of};
-ghost use Rattle.cheetah.specs.Evaluation.{answer_of, evaluated};
-ghost use Rattle.cheetah.specs.Query.{query_of, tokens_of};
+ghost use Rattle.std.specs.Prelude.{◌≡◌, ◌≤◌, ◌∷◌, [], length};
+ghost use Rattle.ch_command.specs.Ending.{Comes};
+ghost use Rattle.ch_command.specs.Reading.{most_bytes};
+ghost use Rattle.ch_grammar.specs.Tree.{select_of};
+ghost use Rattle.ch_tables.specs.Table.{table_of};
+ghost use Rattle.cheetah.specs.Answering.{OfTable, OfText, OfTokens, answer_to, room};
 
 use crate::binding::{bind, one};
-use crate::query::{Selected, plain};
+use crate::lines::{lex_line, parse_line, table_line};
+use crate::plain::plain;
 use crate::selection::select;
-use ch_cells::{Bytes, Listed, Memory};
+use ch_cells::{Bytes, Listed};
+use ch_command::{Refusal, Stop};
 use ch_print::answer_text;
+use ch_sql::{LexError, ParseError, Query, Token, lex, parse};
 use ch_tables::{Room, Table, TableError, read_table};
-use ch_tokens::{LexError, Token, lex};
 use std::alloc::Global;
 
 /// How much the tables of a run may hold.
@@ -19,61 +22,53 @@ const ROOM: Room = Room {
     cells: 32_000_000,
 };
 
-/// The tokens of a query text, if it has any.
-fn tokens_in(alloc: Global, text: &[u8]) -> Result<Option<Listed<Token>>, Memory>
-    ensures { IfOk result (λ tokens. tokens ≡ tokens_of text.now) }
+/// The answer's text over a table.
+fn answer_query(alloc: Global, query: &Query, table: &Table) -> Result<Bytes, Stop>
+    ensures { Comes (λ outcome. outcome ≡ answer_to table.now (select_of query.now)) result }
 {
-    match lex(alloc, text) {
-        Ok(tokens) => Ok(Some(tokens)),
-        Err(e) => { if is_memory(&e) { Err(Memory) } else { Ok(None) } }
-    }
-}
-
-fn is_memory(e: &LexError) -> bool
-    ensures { IsTrue result ↔ (e.now ≡ LexError.Memory) }
-{
-    match e {
-        LexError::Memory => true,
-        _ => false,
-    }
-}
-
-/// The answer's text over a table, where the query can be bound to it.
-fn answer_over(alloc: Global, query: &Selected<'_>, table: &Table) -> Result<Option<Bytes>, Memory>
-    ensures { IfOk result (λ text. text ≡ option_map text_of (option_map (answer_of table.now) (bound_of (query_of query.now) table.now))) }
-{
-    match bind(alloc, query, table)? {
+    let Some(selected) = plain(query) else {
+        return Err(Stop::refused(alloc, Refusal::Input, b"input: not built yet\n"));
+    };
+    match bind(alloc, &selected, table)? {
         Some(bound) => {
             let answer = select(alloc, bound, table)?;
-            Ok(Some(answer_text(alloc, &answer)?))
+            Ok(answer_text(alloc, &answer)?)
         }
-        None => Ok(None),
+        None => Err(Stop::refused(alloc, Refusal::Input, b"input: not built yet\n")),
     }
 }
 
-/// The answer's text of a query over a table's bytes, where the query and the table are such as are built.
-#[tactic(auto, unfolding(crate::specs::Evaluation::evaluated))]
-pub fn evaluate(
-    alloc: Global,
-    text: &[u8],
-    name: &[u8],
-    bytes: Bytes,
-) -> Result<Option<Bytes>, Memory>
-    requires { length bytes ≤ 67108864 }
-    ensures { IfOk result (λ answer. answer ≡ evaluated text.now name.now bytes) }
+/// The answer's text of the query that tokens are.
+fn answer_tokens(alloc: Global, tokens: &Listed<Token>, table: &Table) -> Result<Bytes, Stop>
+    ensures { Comes (OfTokens table.now tokens.now) result }
 {
-    let tokens = match tokens_in(alloc, text)? {
-        Some(tokens) => tokens,
-        None => return Ok(None),
-    };
-    let query = match plain(tokens.as_slice()) {
-        Some(query) => query,
-        None => return Ok(None),
-    };
+    match parse(alloc, tokens) {
+        Ok(query) => answer_query(alloc, &query, table),
+        Err(ParseError::Memory) => Err(Stop::Memory),
+        Err(error) => Err(Stop::Refused(Refusal::Input, parse_line(alloc, error)?)),
+    }
+}
+
+/// The answer's text of the query that a text is.
+fn answer_over(alloc: Global, text: &[u8], table: &Table) -> Result<Bytes, Stop>
+    ensures { Comes (OfText table.now text.now) result }
+{
+    match lex(alloc, text) {
+        Ok(tokens) => answer_tokens(alloc, &tokens, table),
+        Err(LexError::Memory) => Err(Stop::Memory),
+        Err(error) => Err(Stop::Refused(Refusal::Input, lex_line(alloc, error)?)),
+    }
+}
+
+/// The answer's text of a query over a table's bytes, or why there is none.
+pub fn evaluate(alloc: Global, text: &str, name: &str, bytes: Bytes) -> Result<Bytes, Stop>
+    requires { length bytes ≤ most_bytes }
+    ensures { Comes (OfTable text.now name.now (table_of name.now room (bytes ∷ []))) result }
+{
     let parts = one(alloc, bytes)?;
-    match read_table(alloc, name, &parts, ROOM) {
-        Ok(table) => answer_over(alloc, &query, &table),
-        Err(TableError::Memory) => Err(Memory),
-        Err(_) => Ok(None),
+    match read_table(alloc, name.as_bytes(), &parts, ROOM) {
+        Ok(table) => answer_over(alloc, text.as_bytes(), &table),
+        Err(TableError::Memory) => Err(Stop::Memory),
+        Err(error) => Err(Stop::Refused(Refusal::Input, table_line(alloc, name, error)?)),
     }
 }

@@ -3,13 +3,16 @@
 
 mod binding;
 mod evaluation;
-mod query;
+mod laws;
+mod lines;
+mod plain;
 mod selection;
 mod table_row;
 mod top;
 mod verdict;
 mod words;
 
+pub use laws::outcomes_are_one;
 pub use top::cheetah;
 
 #[cfg(test)]

@@ -2,7 +2,7 @@ ghost use Rattle.std.specs.Prelude.{◌≡◌, ◌<◌, ◌∷◌, ◌++◌, [],
 ghost use Rattle.ch_cells.specs.CellRef.{cell_of};
 ghost use Rattle.ch_pred.specs.Meaning.{meaning, printed_cell};
 ghost use Rattle.ch_pred.specs.Names.{NamesPrinted};
-ghost use Rattle.cheetah.specs.Evaluation.{answer_of, rows_of};
+ghost use Rattle.cheetah.specs.Answering.{answer_of, rows_of};
 ghost use Rattle.cheetah.specs.Selection.{FitsTable, chosen};
 
 use crate::table_row::TableRow;

@@ -154,7 +154,7 @@ fn words_give_their_status(rt: HostRuntime) -> Result<(), Fail> {
             ],
             2,
             "",
-            "input: not built yet\n",
+            "input: query token 1: not a query\n",
         ),
         query(
             &[
@@ -165,7 +165,7 @@ fn words_give_their_status(rt: HostRuntime) -> Result<(), Fail> {
             ],
             2,
             "",
-            "input: not built yet\n",
+            "input: query byte 24: not a token\n",
         ),
         query(
             &[
@@ -213,9 +213,19 @@ fn files_give_their_status(rt: HostRuntime) -> Result<(), Fail> {
         filter(),
         table(b"a\n", 0, "a\n", ""),
         table(b"\xEF\xBB\xBFb,a\r\n1,7\r\n2,3\r\n", 0, "a\n7\n", ""),
-        table(b"", 2, "", "input: not built yet\n"),
-        table(b"a,a\n", 2, "", "input: not built yet\n"),
-        table(b"a,b\n1\n", 2, "", "input: not built yet\n"),
+        table(b"", 2, "", "input: table t part 0: no header\n"),
+        table(
+            b"a,a\n",
+            2,
+            "",
+            "input: table t part 0: column 1 repeated\n",
+        ),
+        table(
+            b"a,b\n1\n",
+            2,
+            "",
+            "input: table t part 0 row 0: ragged, have 1 want 2\n",
+        ),
         table(b"a\n007\n", 2, "", "input: not built yet\n"),
         table(b"a\n-0\n", 2, "", "input: not built yet\n"),
         table(
@@ -285,4 +295,44 @@ fn a_large_file_is_refused(rt: HostRuntime) -> Result<(), Fail> {
     assert_eq!(rt; out.bytes(), b"".as_slice());
     assert_eq!(rt; err.bytes(), b"input: file t.csv too large\n".as_slice());
     Ok(())
+}
+
+/// A query over the example, which is refused with this line.
+fn refuses(rt: &impl Abort, alloc: Global, text: &'static str, line: &str) -> Result<(), Fail> {
+    let words = copy_words(alloc, &["cheetah", "--query", text, "t=t.csv"])?;
+    let mut shelf = shelf_of(alloc, "t.csv", Bytes::from_slice(alloc, b"a\n5\n")?, &[])?;
+    let mut out = VecSink::new(alloc, Vec::new(alloc));
+    let mut err = VecSink::new(alloc, Vec::new(alloc));
+    assert_eq!(rt; cheetah(alloc, &words, &mut shelf, &mut out, &mut err), 2);
+    assert_eq!(rt; out.bytes(), b"".as_slice());
+    assert_eq!(rt; err.bytes(), line.as_bytes());
+    Ok(())
+}
+
+#[test]
+fn queries_are_refused_at_their_place(rt: HostRuntime) -> Result<(), Fail> {
+    let alloc = rt.alloc();
+    let end = "input: query token 7: not a query\n";
+    refuses(&rt, alloc, "SELECT a FROM t WHERE a >", end)?;
+    let range = "input: query byte 26: number out of range\n";
+    refuses(
+        &rt,
+        alloc,
+        "SELECT a FROM t WHERE a > 2305843009213693952",
+        range,
+    )?;
+    let pattern = "input: query token 7: bad pattern\n";
+    refuses(&rt, alloc, "SELECT a FROM t WHERE a LIKE 'x'", pattern)?;
+    let inner = "input: query token 9: not a query\n";
+    let text = "SELECT DISTINCT a FROM t WHERE a IN (SELECT b FROM u)";
+    refuses(&rt, alloc, text, inner)?;
+    let text = "SELECT x FROM t WHERE x > 1 AND k IN (SELECT k FROM u)";
+    refuses(&rt, alloc, text, "input: query token 12: not a query\n")?;
+    let built = "input: not built yet\n";
+    refuses(
+        &rt,
+        alloc,
+        "SELECT a FROM t WHERE a IN (SELECT b FROM u)",
+        built,
+    )
 }

@@ -1,9 +1,7 @@
-ghost use Rattle.std.specs.Prelude.{◌≡◌, ◌≤◌, length, map, string_bytes};
-ghost use Rattle.ch_command.specs.Ending.{Comes, Fits};
-ghost use Rattle.ch_command.specs.Reading.{most_bytes};
+ghost use Rattle.std.specs.Prelude.{◌≡◌, ◌≤◌, map, string_bytes};
+ghost use Rattle.ch_command.specs.Ending.{Fits};
 ghost use Rattle.ch_outside.specs.Faults.{StaysReliable};
-ghost use Rattle.cheetah.specs.Evaluation.{evaluated};
-ghost use Rattle.cheetah.specs.Result.{command_for, command_of, outcome_of};
+ghost use Rattle.cheetah.specs.Result.{command_for, command_of};
 ghost use Rattle.cheetah.specs.Words.{Query};
 
 use crate::evaluation::evaluate;
@@ -12,17 +10,6 @@ use ch_cells::{Bytes, Listed};
 use ch_command::{Refusal, Stop, limit_after, read_file};
 use ch_outside::Shelf;
 use std::alloc::Global;
-
-/// The answer of a query over a table's bytes.
-fn judge(alloc: Global, text: &str, name: &str, bytes: Bytes) -> Result<Bytes, Stop>
-    requires { length bytes ≤ most_bytes }
-    ensures { Comes (λ outcome. outcome ≡ outcome_of (evaluated text.now name.now bytes)) result }
-{
-    match evaluate(alloc, text.as_bytes(), name.as_bytes(), bytes)? {
-        Some(answer) => Ok(answer),
-        None => Err(Stop::refused(alloc, Refusal::Input, b"input: not built yet\n")),
-    }
-}
 
 /// The answer of a query over a file.
 fn judge_file<F: Shelf>(
@@ -38,7 +25,7 @@ fn judge_file<F: Shelf>(
     ensures steady { StaysReliable (F.reliable shelf.old) (F.reliable shelf.new) (F.faults shelf.old) (F.faults shelf.new) }
 {
     let bytes = read_file(alloc, shelf, file, limit_after(0))?;
-    judge(alloc, text, name, bytes)
+    evaluate(alloc, text, name, bytes)
 }
 
 /// What the command that the words give comes to. All that it reads is read here.
