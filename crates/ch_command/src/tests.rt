@@ -1,7 +1,8 @@
-use crate::{Refusal, Status, Stop, end, limit_after, read_file};
+use crate::{Refusal, Status, Stop, end, limit_after, read_file, refuse_words};
 use ch_cells::Bytes;
 use ch_outside::{MapShelf, VecSink};
 use std::alloc::Global;
+use std::io::ErrorKind;
 use std::process::Abort;
 use std::test::Fail;
 
@@ -63,4 +64,19 @@ fn commands_end_with_their_status(rt: HostRuntime) -> Result<(), Fail> {
     assert_eq!(rt; out.bytes(), b"a\n".as_slice());
     assert_eq!(rt; err.bytes(), b"no\nmemory\n".as_slice());
     Ok(())
+}
+
+#[test]
+fn words_that_cannot_be_read_are_refused(rt: HostRuntime) {
+    let mut err = VecSink::new(rt.alloc(), Vec::new(rt.alloc()));
+    let usage = b"usage: check FILE\n";
+    assert_eq!(rt;
+        refuse_words(&mut err, ErrorKind::InvalidData, usage).code(),
+        1
+    );
+    assert_eq!(rt;
+        refuse_words(&mut err, ErrorKind::OutOfMemory, usage).code(),
+        7
+    );
+    assert_eq!(rt; err.bytes(), b"usage: check FILE\nmemory\n".as_slice());
 }

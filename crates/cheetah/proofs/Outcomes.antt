@@ -1,7 +1,8 @@
 -- What the command comes to is there, and is one thing.
 use Rattle.std.proofs.Common.{◌≡◌, ◌∙◌, ap, sym, subst, refl, inl, inr, ℕ, List, [], ◌∷◌, Result, Ok, Err}
+use Rattle.ch_command.proofs.Outcomes.{Total, Unique, read_one, read_some}
 use Rattle.ch_command.specs.Lines.{no_words_line}
-use Rattle.ch_command.specs.Outcome.{Outcome, ReadThen, refused}
+use Rattle.ch_command.specs.Outcome.{Outcome, refused}
 use Rattle.ch_command.specs.Reading.{contents_of, limit_after}
 use Rattle.ch_limits.proofs.Within.{within_read}
 use Rattle.ch_outside.specs.Shelf.{Files}
@@ -16,12 +17,6 @@ use Rattle.cheetah.specs.Answering.{Answers, OfTable, OfText, OfTokens, answer_t
 use Rattle.cheetah.specs.Lines.{lex_line, parse_line, table_line}
 use Rattle.cheetah.specs.Result.{ComesTo, bad_table_line, wrong_words_line}
 use Rattle.cheetah.specs.Words.{BadTable, NoWords, Query, Wish, WrongWords}
-
-abbrev Total : (Outcome → Type 0) → Type 0
-Total Is = (outcome : Outcome) × Is outcome
-
-abbrev Unique : (Outcome → Type 0) → Type 0
-Unique Is = (a b : Outcome) → Is a → Is b → a ≡ b
 
 tokens_some : (table : TableValue) (tokens : List Token) → Total (OfTokens table tokens)
 tokens_some table tokens = elim (parsed.either (seen tokens)) [
@@ -60,14 +55,6 @@ table_some text name (Err e) = (refused 2 (table_line name e), refl)
 table_one : (text name : List ℕ) (table : Result TableValue TableError) → Unique (OfTable text name table)
 table_one text name (Ok table) a b p q = text_one table text a b p q
 table_one text name (Err e) a b p q = p ∙ sym q
-
-read_some : (read : Result (List ℕ) (List ℕ)) (next : List ℕ → Outcome → Type 0) → ((bytes : List ℕ) → Total (next bytes)) → Total (ReadThen read next)
-read_some (Ok bytes) next more = more bytes
-read_some (Err line) next more = (refused 2 line, refl)
-
-read_one : (read : Result (List ℕ) (List ℕ)) (next : List ℕ → Outcome → Type 0) → ((bytes : List ℕ) → Unique (next bytes)) → Unique (ReadThen read next)
-read_one (Ok bytes) next more a b p q = more bytes a b p q
-read_one (Err line) next more a b p q = p ∙ sym q
 
 pub some_outcome : (asked : Wish) (files : Files) → Total (ComesTo asked files)
 some_outcome NoWords files = (refused 1 no_words_line, refl)

@@ -1,10 +1,11 @@
 -- What the command comes to is there, and is one thing.
-use Rattle.std.proofs.Common.{◌≡◌, ◌∙◌, ap, sym, refl, inl, inr, ℕ, List, [], length, Option, Some, None, Result, Ok, Err}
+use Rattle.std.proofs.Common.{◌∙◌, ap, sym, refl, inl, inr, ℕ, List, [], length, Option, Some, None, Result, Ok, Err}
 use Rattle.ch_asm.proofs.BadLines.{told_once}
 use Rattle.ch_asm.proofs.Decided.{texts_decided}
 use Rattle.ch_asm.proofs.Refusals.{bad_is_none, once}
+use Rattle.ch_command.proofs.Outcomes.{Total, Unique, read_one, read_some}
 use Rattle.ch_command.specs.Lines.{no_words_line}
-use Rattle.ch_command.specs.Outcome.{Outcome, ReadThen, refused}
+use Rattle.ch_command.specs.Outcome.{Outcome, refused}
 use Rattle.ch_command.specs.Reading.{contents_of, limit_after}
 use Rattle.ch_ir.specs.Profile.{default_settings, profile_of}
 use Rattle.ch_ir.specs.declared.profile.Profile.{Profile}
@@ -14,12 +15,6 @@ use Rattle.ch_outside.specs.Shelf.{Files}
 use Rattle.cheetah_check.specs.Lines.{profile_line, program_line}
 use Rattle.cheetah_check.specs.Result.{Agree, ComesTo, OfFiles, OfText, UnderProfile, verdict_on}
 use Rattle.cheetah_check.specs.Words.{Check, NoWords, Wish, WrongWords}
-
-abbrev Total : (Outcome → Type 0) → Type 0
-Total Is = (outcome : Outcome) × Is outcome
-
-abbrev Unique : (Outcome → Type 0) → Type 0
-Unique Is = (a b : Outcome) → Is a → Is b → a ≡ b
 
 text_some : (profile : Profile) (text : List ℕ) → Total (OfText profile text)
 text_some profile text = elim (texts_decided text) [
@@ -40,14 +35,6 @@ profile_some (Err (Bad line why)) text = (refused 2 (profile_line line why), ref
 profile_one : (profile : Result Profile ProfileError) (text : List ℕ) → Unique (UnderProfile profile text)
 profile_one (Ok profile) text a b p q = text_one profile text a b p q
 profile_one (Err (Bad line why)) text a b p q = p ∙ sym q
-
-read_some : (read : Result (List ℕ) (List ℕ)) (next : List ℕ → Outcome → Type 0) → ((bytes : List ℕ) → Total (next bytes)) → Total (ReadThen read next)
-read_some (Ok bytes) next more = more bytes
-read_some (Err line) next more = (refused 2 line, refl)
-
-read_one : (read : Result (List ℕ) (List ℕ)) (next : List ℕ → Outcome → Type 0) → ((bytes : List ℕ) → Unique (next bytes)) → Unique (ReadThen read next)
-read_one (Ok bytes) next more a b p q = more bytes a b p q
-read_one (Err line) next more a b p q = p ∙ sym q
 
 files_some : (files : Files) (profile : Option (List ℕ)) (program : List ℕ) → Total (OfFiles files profile program)
 files_some files None program = read_some (contents_of program (limit_after 0) (files program)) (OfText default_settings) (text_some default_settings)
