@@ -1,10 +1,10 @@
 -- From place to place.
 use Rattle.std.proofs.Common.{◌≡◌, Result, Ok, Err, IsErrAnd, ◌∙◌}
 use Rattle.std.proofs.lemmas.Result.{err_from_is_err_and}
-use Rattle.ch_grammar.specs.Tree.{Select}
-use Rattle.ch_grammar.specs.declared.error.ParseError.{ParseError}
-use Rattle.ch_grammar.specs.declared.error.ParseError.TheVariants as error
-use Rattle.ch_places.specs.Parsing.{Fails, Moves}
+use Rattle.ch_sql_grammar.specs.Tree.{Select}
+use Rattle.ch_sql_grammar.specs.declared.error.ParseError.{ParseError}
+use Rattle.ch_sql_grammar.specs.declared.error.ParseError.TheVariants as error
+use Rattle.ch_sql_places.specs.Parsing.{Fails, Moves}
 
 pub fails_along : (from mid : Result Select ParseError) (e : ParseError) → from ≡ mid → Fails mid e → Fails from e
 fails_along from mid error.Memory q h = tt

@@ -1,20 +1,20 @@
 -- The machine's step at each place, in tests of the next token.
 use Rattle.std.proofs.Common.{◌≡◌, ℕ, ◌+◌, suc, zero, Bool, true, false, not, ◌||◌, ◌&&◌, nat_lt, List, [], ◌∷◌, ◌++◌, length, take, drop, Option, Some, None, option_map, option_and_then, Result, Err, refl, sym, ap, ◌∙◌, if◌then◌else◌, ◌-◌, arith}
 use Rattle.std.specs.Prelude.{slice_get}
-use Rattle.ch_grammar.specs.declared.tok.Mark.TheVariants as mark
-use Rattle.ch_grammar.specs.declared.tok.Tok.{Tok}
-use Rattle.ch_grammar.specs.declared.query.ColumnRef.{ColumnRef}
+use Rattle.ch_sql_grammar.specs.declared.tok.Mark.TheVariants as mark
+use Rattle.ch_sql_grammar.specs.declared.tok.Tok.{Tok}
+use Rattle.ch_sql_grammar.specs.declared.query.ColumnRef.{ColumnRef}
 use Rattle.ch_pred.specs.declared.pred.Cmp.{Cmp}
 use Rattle.ch_pred.specs.declared.pred.Literal.{Literal}
-use Rattle.ch_grammar.specs.declared.query.Side.TheVariants as side
-use Rattle.ch_grammar.specs.declared.error.ParseError.{ParseError}
-use Rattle.ch_grammar.specs.declared.error.ParseError.TheVariants as error
-use Rattle.ch_grammar.specs.Tree.{Plain, Compare, Between, Within, Like, Not, all_of, any_of, Select}
-use Rattle.ch_grammar.specs.Tokens.{has_mark, name_in, literal_in, text_in, cmp_in, is_there, marked, name_at, literal_at, text_at, cmp_at}
-use Rattle.ch_grammar.specs.declared.head.Head.{Head}
-use Rattle.ch_grammar.specs.declared.tail.TailPlace.TheVariants as place
-use Rattle.ch_places.specs.Machine.{Around, Member, Negated, Level, Whole, Group, Taker, First, Second, Leading, Place, Want, Name, Dot, Atom, Compared, Low, LowAnd, High, In, Listed, Next, LikeText, Negs, Conjs, Closed, Tailing, have, took, takes_or, takes_tail, step, limit, finish, goes, ends, parse_from, step_settled, finish_settled, given, depth_of, is_prefix}
-use Rattle.ch_places.specs.Parsing.{parse_at}
+use Rattle.ch_sql_grammar.specs.declared.query.Side.TheVariants as side
+use Rattle.ch_sql_grammar.specs.declared.error.ParseError.{ParseError}
+use Rattle.ch_sql_grammar.specs.declared.error.ParseError.TheVariants as error
+use Rattle.ch_sql_grammar.specs.Tree.{Plain, Compare, Between, Within, Like, Not, all_of, any_of, Select}
+use Rattle.ch_sql_grammar.specs.Tokens.{has_mark, name_in, literal_in, text_in, cmp_in, is_there, marked, name_at, literal_at, text_at, cmp_at}
+use Rattle.ch_sql_grammar.specs.declared.head.Head.{Head}
+use Rattle.ch_sql_grammar.specs.declared.tail.TailPlace.TheVariants as place
+use Rattle.ch_sql_places.specs.Machine.{Around, Member, Negated, Level, Whole, Group, Taker, First, Second, Leading, Place, Want, Name, Dot, Atom, Compared, Low, LowAnd, High, In, Listed, Next, LikeText, Negs, Conjs, Closed, Tailing, have, took, takes_or, takes_tail, step, limit, finish, goes, ends, parse_from, step_settled, finish_settled, given, depth_of, is_prefix}
+use Rattle.ch_sql_places.specs.Parsing.{parse_at}
 
 abbrev pub Answer : Type 0
 Answer = Result Select ParseError

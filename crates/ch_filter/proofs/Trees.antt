@@ -1,13 +1,13 @@
 -- The plain tree of each form.
 use Rattle.std.proofs.Common.{◌≡◌, ◌∙◌, ap, sym, ℕ, List}
-use Rattle.ch_grammar.specs.declared.query.ColumnRef.{ColumnRef}
+use Rattle.ch_sql_grammar.specs.declared.query.ColumnRef.{ColumnRef}
 use Rattle.ch_pred.specs.declared.pred.Cmp.{Cmp}
 use Rattle.ch_pred.specs.declared.pred.Literal.{Literal}
-use Rattle.ch_grammar.specs.declared.query.Side.{Side}
-use Rattle.ch_grammar.specs.declared.query.Pred.TheVariants as pred
-use Rattle.ch_grammar.specs.declared.query.Pred.TheOpen as layer
-use Rattle.ch_grammar.specs.declared.query.Pred.TheFolds.{fold-roll-Pred}
-use Rattle.ch_grammar.specs.Tree.{Plain, Compare, Between, Within, Like, plain_of, plain_step}
+use Rattle.ch_sql_grammar.specs.declared.query.Side.{Side}
+use Rattle.ch_sql_grammar.specs.declared.query.Pred.TheVariants as pred
+use Rattle.ch_sql_grammar.specs.declared.query.Pred.TheOpen as layer
+use Rattle.ch_sql_grammar.specs.declared.query.Pred.TheFolds.{fold-roll-Pred}
+use Rattle.ch_sql_grammar.specs.Tree.{Plain, Compare, Between, Within, Like, plain_of, plain_step}
 
 pub plain_compare : (col : ColumnRef) (c : Cmp) (s : Side) → plain_of (pred.Compare col c s) ≡ Compare col c s
 plain_compare col c s = ap plain_of (sym (pred.rolls-Compare col c s)) ∙ fold-roll-Pred Plain plain_step (layer.Compare col c s)

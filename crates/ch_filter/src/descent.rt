@@ -1,15 +1,15 @@
 ghost use Rattle.std.specs.Prelude.{ℕ, ◌≡◌, ◌<◌, ◌≤◌, ◌∷◌, [], ◌++◌, ◌==◌, ◌&&◌, not, IfOk, IsTrue, length, List, map, true};
 ghost use Rattle.std.specs.List.{list_all};
-ghost use Rattle.ch_places.specs.Machine.{Taker, First, Around, Level, Member, took, have, depth_of, level_depth, takes_or, Name, Compared, Low, In, Listed, LikeText, Want, Conjs, Closed, is_prefix};
-ghost use Rattle.ch_places.specs.Parsing.{parse_at, Moves, LiteralAt, behind_list};
-ghost use Rattle.ch_grammar.specs.Tree.{Plain, Not, plain_of, any_of, all_of};
-ghost use Rattle.ch_grammar.specs.declared.query.ColumnRef.{ColumnRef};
-ghost use Rattle.ch_grammar.specs.Tokens.{literal_in};
+ghost use Rattle.ch_sql_places.specs.Machine.{Taker, First, Around, Level, Member, took, have, depth_of, level_depth, takes_or, Name, Compared, Low, In, Listed, LikeText, Want, Conjs, Closed, is_prefix};
+ghost use Rattle.ch_sql_places.specs.Parsing.{parse_at, Moves, LiteralAt, behind_list};
+ghost use Rattle.ch_sql_grammar.specs.Tree.{Plain, Not, plain_of, any_of, all_of};
+ghost use Rattle.ch_sql_grammar.specs.declared.query.ColumnRef.{ColumnRef};
+ghost use Rattle.ch_sql_grammar.specs.Tokens.{literal_in};
 
 use crate::token_at::{cmp_there, mark_at, name_there, text_there};
 use ch_cells::{Bytes, Memory};
-use ch_grammar::{ColumnRef, Mark, ParseError, Pred, Side, Tok};
 use ch_pred::{Cmp, Literal};
+use ch_sql_grammar::{ColumnRef, Mark, ParseError, Pred, Side, Tok};
 use std::alloc::{AllocError, Global};
 
 fn copy_literal(alloc: Global, token: &Tok) -> Result<Option<Literal>, Memory>
@@ -23,7 +23,7 @@ fn copy_literal(alloc: Global, token: &Tok) -> Result<Option<Literal>, Memory>
 }
 
 /// The literal that comes.
-#[tactic(auto, unfolding(ch_grammar::specs::Tokens::literal_at))]
+#[tactic(auto, unfolding(ch_sql_grammar::specs::Tokens::literal_at))]
 fn literal(alloc: Global, tokens: &[Tok], at: usize) -> Result<(Literal, usize), ParseError>
     ensures { LiteralAt tokens.now at result }
 {

@@ -1,6 +1,6 @@
 use crate::descent::{conj, pred};
-use ch_grammar::{ParseError, Pred, Tok, toks_of};
-use ch_tokens::lex;
+use ch_sql_grammar::{ParseError, Pred, Tok, toks_of};
+use ch_sql_tokens::lex;
 use std::test::Fail;
 
 fn read(rt: &HostRuntime, text: &str) -> Result<Vec<Tok>, Fail> {

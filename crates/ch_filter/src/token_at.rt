@@ -1,12 +1,12 @@
 ghost use Rattle.std.specs.Prelude.{◌≡◌, ◌<◌, IsSome, IsTrue, length, option_map};
-ghost use Rattle.ch_grammar.specs.Tokens.{cmp_in, marked, name_at, cmp_at, text_at};
+ghost use Rattle.ch_sql_grammar.specs.Tokens.{cmp_in, marked, name_at, cmp_at, text_at};
 
 use ch_cells::Bytes;
-use ch_grammar::{Mark, Tok, is_mark, name_of};
 use ch_pred::Cmp;
+use ch_sql_grammar::{Mark, Tok, is_mark, name_of};
 
 /// Whether the token is this mark.
-#[tactic(auto, unfolding(ch_grammar::specs::Tokens::marked))]
+#[tactic(auto, unfolding(ch_sql_grammar::specs::Tokens::marked))]
 pub fn mark_at(tokens: &[Tok], at: usize, mark: Mark) -> bool
     ensures value { result ≡ marked mark tokens.now at }
     ensures within { IsTrue result → at < length tokens.now }
@@ -18,7 +18,7 @@ pub fn mark_at(tokens: &[Tok], at: usize, mark: Mark) -> bool
 }
 
 /// The name that the token is.
-#[tactic(auto, unfolding(ch_grammar::specs::Tokens::name_at))]
+#[tactic(auto, unfolding(ch_sql_grammar::specs::Tokens::name_at))]
 pub fn name_there(tokens: &[Tok], at: usize) -> Option<&Bytes>
     ensures value { option_map (λ n. n.now) result ≡ name_at tokens.now at }
     ensures within { IsSome result → at < length tokens.now }
@@ -44,7 +44,7 @@ fn cmp_of(token: &Tok) -> Option<Cmp>
 }
 
 /// The comparison that the token is.
-#[tactic(auto, unfolding(ch_grammar::specs::Tokens::cmp_at))]
+#[tactic(auto, unfolding(ch_sql_grammar::specs::Tokens::cmp_at))]
 pub fn cmp_there(tokens: &[Tok], at: usize) -> Option<Cmp>
     ensures value { result ≡ cmp_at tokens.now at }
     ensures within { IsSome result → at < length tokens.now }
@@ -56,7 +56,7 @@ pub fn cmp_there(tokens: &[Tok], at: usize) -> Option<Cmp>
 }
 
 /// The text that the token is.
-#[tactic(auto, unfolding(ch_grammar::specs::Tokens::text_at))]
+#[tactic(auto, unfolding(ch_sql_grammar::specs::Tokens::text_at))]
 pub fn text_there(tokens: &[Tok], at: usize) -> Option<&Bytes>
     ensures value { option_map (λ n. n.now) result ≡ text_at tokens.now at }
     ensures within { IsSome result → at < length tokens.now }

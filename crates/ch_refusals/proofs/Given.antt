@@ -1,21 +1,21 @@
 -- A refusal that holds of a list of tokens is what the places give.
 use Rattle.std.proofs.Common.{◌≡◌, ◌≢◌, ℕ, ◌+◌, Bool, true, false, not, ◌||◌, ◌&&◌, nat_lt, if◌then◌else◌, List, [], ◌∷◌, ◌++◌, length, Option, Some, None, option_and_then, Result, Ok, Err, refl, sym, ap, ◌∙◌, append_assoc, append-nil, arith, ◌⊎◌, inl, inr}
-use Rattle.ch_grammar.specs.declared.tok.Tok.{Tok}
-use Rattle.ch_grammar.specs.declared.tok.Mark.TheVariants as mark
-use Rattle.ch_grammar.specs.declared.error.ParseError.{ParseError}
-use Rattle.ch_grammar.specs.declared.error.ParseError.TheVariants as error
-use Rattle.ch_grammar.specs.Tree.{Select}
-use Rattle.ch_grammar.specs.Tokens.{has_mark, text_in}
-use Rattle.ch_grammar.specs.Grammar.{Begins, IsEnd}
-use Rattle.ch_places.specs.Machine.{Place, Want, Listed, LikeText, depth_of, is_prefix, step, limit, finish, answer, start, goes, ends, parse_from}
-use Rattle.ch_places.specs.Completion.{completion}
-use Rattle.ch_places.specs.Refusal.{passes, pass, IsSyntax, IsLimit, IsRefusal}
-use Rattle.ch_places.proofs.Complete.{completes}
-use Rattle.ch_places.proofs.Walked.{complete}
-use Rattle.ch_places.proofs.Sound.{sound}
-use Rattle.ch_places.proofs.Refused.{why_refused}
-use Rattle.ch_limits.specs.Limits.{IsQueryWithin}
-use Rattle.ch_limits.proofs.Within.{refused_is_not_within, read_within}
+use Rattle.ch_sql_grammar.specs.declared.tok.Tok.{Tok}
+use Rattle.ch_sql_grammar.specs.declared.tok.Mark.TheVariants as mark
+use Rattle.ch_sql_grammar.specs.declared.error.ParseError.{ParseError}
+use Rattle.ch_sql_grammar.specs.declared.error.ParseError.TheVariants as error
+use Rattle.ch_sql_grammar.specs.Tree.{Select}
+use Rattle.ch_sql_grammar.specs.Tokens.{has_mark, text_in}
+use Rattle.ch_sql_grammar.specs.Grammar.{Begins, IsEnd}
+use Rattle.ch_sql_places.specs.Machine.{Place, Want, Listed, LikeText, depth_of, is_prefix, step, limit, finish, answer, start, goes, ends, parse_from}
+use Rattle.ch_sql_places.specs.Completion.{completion}
+use Rattle.ch_sql_places.specs.Refusal.{passes, pass, IsSyntax, IsLimit, IsRefusal}
+use Rattle.ch_sql_places.proofs.Complete.{completes}
+use Rattle.ch_sql_places.proofs.Walked.{complete}
+use Rattle.ch_sql_places.proofs.Sound.{sound}
+use Rattle.ch_sql_places.proofs.Refused.{why_refused}
+use Rattle.ch_sql_limits.specs.Limits.{IsQueryWithin}
+use Rattle.ch_sql_limits.proofs.Within.{refused_is_not_within, read_within}
 
 -- behind tokens that none refuses the parse goes on at their place
 

@@ -4,19 +4,19 @@ use Rattle.std.specs.List.{list_all}
 use Rattle.std.proofs.lemmas.Bool.{cases_Bool}
 use Rattle.std.proofs.lemmas.Bool.Decides.{nat_tests}
 use Rattle.std.proofs.Math.Seq.{drop-append_seam}
-use Rattle.ch_tokens.specs.declared.token.Token.{Token}
-use Rattle.ch_tokens.specs.declared.error.LexError.{LexError}
-use Rattle.ch_tokens.specs.declared.error.LexError.TheVariants as error
-use Rattle.ch_tokens.specs.declared.scanner.Front.{Front}
-use Rattle.ch_tokens.specs.declared.scanner.Front.TheVariants.{Found, OutOfRange, Nothing}
-use Rattle.ch_tokens.specs.Byte.{is_blank, begins_with}
-use Rattle.ch_tokens.specs.Spelling.{spelling, TokenAt}
-use Rattle.ch_tokens.specs.Lexed.{LongestAt, Reads, IsLexed, IsQueryText, IsStuck, IsOutOfRange, IsLexError}
-use Rattle.ch_tokens.specs.Scan.{front_of, taken, with_token, lex_from, lex_at, lex_of, after}
-use Rattle.ch_tokens.proofs.Bools.{if_true, if_false, both}
-use Rattle.ch_tokens.proofs.ScanRules.{scan_cons}
-use Rattle.ch_tokens.proofs.Fronts.{Sound, front_sound, Covers, front_covers, front_out, front_blank, spelling_some}
-use Rattle.ch_tokens.proofs.Lexing.{scans_tokens, scans_refused}
+use Rattle.ch_sql_tokens.specs.declared.token.Token.{Token}
+use Rattle.ch_sql_tokens.specs.declared.error.LexError.{LexError}
+use Rattle.ch_sql_tokens.specs.declared.error.LexError.TheVariants as error
+use Rattle.ch_sql_tokens.specs.declared.scanner.Front.{Front}
+use Rattle.ch_sql_tokens.specs.declared.scanner.Front.TheVariants.{Found, OutOfRange, Nothing}
+use Rattle.ch_sql_tokens.specs.Byte.{is_blank, begins_with}
+use Rattle.ch_sql_tokens.specs.Spelling.{spelling, TokenAt}
+use Rattle.ch_sql_tokens.specs.Lexed.{LongestAt, Reads, IsLexed, IsQueryText, IsStuck, IsOutOfRange, IsLexError}
+use Rattle.ch_sql_tokens.specs.Scan.{front_of, taken, with_token, lex_from, lex_at, lex_of, after}
+use Rattle.ch_sql_tokens.proofs.Bools.{if_true, if_false, both}
+use Rattle.ch_sql_tokens.proofs.ScanRules.{scan_cons}
+use Rattle.ch_sql_tokens.proofs.Fronts.{Sound, front_sound, Covers, front_covers, front_out, front_blank, spelling_some}
+use Rattle.ch_sql_tokens.proofs.Lexing.{scans_tokens, scans_refused}
 
 -- the longest token is found
 

@@ -1,9 +1,9 @@
 ghost use Rattle.std.specs.Prelude.{◌≡◌, ◌≢◌, ◌↔◌, ◌⊎◌, ℕ, List, Ok, Err};
-ghost use Rattle.ch_tokens.specs.declared.token.Token.{Token};
-ghost use Rattle.ch_tokens.specs.declared.error.LexError.{LexError};
-ghost use Rattle.ch_tokens.specs.declared.error.LexError.TheVariants.{Memory};
-ghost use Rattle.ch_tokens.specs.Lexed.{IsLexed, IsLexError, IsQueryText};
-ghost use Rattle.ch_tokens.specs.Scan.{lex_of};
+ghost use Rattle.ch_sql_tokens.specs.declared.token.Token.{Token};
+ghost use Rattle.ch_sql_tokens.specs.declared.error.LexError.{LexError};
+ghost use Rattle.ch_sql_tokens.specs.declared.error.LexError.TheVariants.{Memory};
+ghost use Rattle.ch_sql_tokens.specs.Lexed.{IsLexed, IsLexError, IsQueryText};
+ghost use Rattle.ch_sql_tokens.specs.Scan.{lex_of};
 
 /// The scan of a query text gives exactly the refusal that holds of it. One refusal at most holds of
 /// a text of any length.

@@ -1,11 +1,11 @@
 ghost use Rattle.std.specs.Prelude.{◌≡◌, ◌≢◌, ◌↔◌, ◌⊎◌, List, Err};
-ghost use Rattle.ch_grammar.specs.declared.tok.Tok.{Tok};
-ghost use Rattle.ch_grammar.specs.declared.error.ParseError.{ParseError};
-ghost use Rattle.ch_grammar.specs.declared.error.ParseError.TheVariants.{Memory};
-ghost use Rattle.ch_grammar.specs.Tree.{Select};
-ghost use Rattle.ch_places.specs.Machine.{parse_from, start};
-ghost use Rattle.ch_places.specs.Refusal.{IsRefusal};
-ghost use Rattle.ch_limits.specs.Limits.{IsQueryWithin};
+ghost use Rattle.ch_sql_grammar.specs.declared.tok.Tok.{Tok};
+ghost use Rattle.ch_sql_grammar.specs.declared.error.ParseError.{ParseError};
+ghost use Rattle.ch_sql_grammar.specs.declared.error.ParseError.TheVariants.{Memory};
+ghost use Rattle.ch_sql_grammar.specs.Tree.{Select};
+ghost use Rattle.ch_sql_places.specs.Machine.{parse_from, start};
+ghost use Rattle.ch_sql_places.specs.Refusal.{IsRefusal};
+ghost use Rattle.ch_sql_limits.specs.Limits.{IsQueryWithin};
 
 /// The places give exactly the refusal that holds of the tokens, which is one at most.
 pub fn parse_refusals_are_exact()

@@ -1,18 +1,18 @@
 -- From the inner key of a semi-join on, a head is a semi-join's.
 use Rattle.std.proofs.Common.{◌≡◌, ℕ, Bool, true, false, List, Option, Some, None, refl, if◌then◌else◌}
-use Rattle.ch_grammar.specs.declared.tok.Mark.TheVariants as mark
-use Rattle.ch_grammar.specs.declared.tok.Tok.{Tok}
-use Rattle.ch_grammar.specs.declared.query.ColumnRef.{ColumnRef}
-use Rattle.ch_grammar.specs.declared.query.Item.{Item}
-use Rattle.ch_grammar.specs.declared.head.HeadPlace.{HeadPlace}
-use Rattle.ch_grammar.specs.declared.head.HeadPlace.TheVariants as head
-use Rattle.ch_grammar.specs.declared.head.HeadStep.{HeadStep}
-use Rattle.ch_grammar.specs.declared.head.HeadStep.TheVariants as headstep
-use Rattle.ch_grammar.specs.declared.head.HeadTaker.{HeadTaker}
-use Rattle.ch_grammar.specs.declared.head.HeadTaker.TheVariants as taker
-use Rattle.ch_grammar.specs.HeadSteps.{name_given, step_of}
-use Rattle.ch_grammar.specs.Tokens.{has_mark, name_in}
-use Rattle.ch_places.specs.Machine.{is_semi}
+use Rattle.ch_sql_grammar.specs.declared.tok.Mark.TheVariants as mark
+use Rattle.ch_sql_grammar.specs.declared.tok.Tok.{Tok}
+use Rattle.ch_sql_grammar.specs.declared.query.ColumnRef.{ColumnRef}
+use Rattle.ch_sql_grammar.specs.declared.query.Item.{Item}
+use Rattle.ch_sql_grammar.specs.declared.head.HeadPlace.{HeadPlace}
+use Rattle.ch_sql_grammar.specs.declared.head.HeadPlace.TheVariants as head
+use Rattle.ch_sql_grammar.specs.declared.head.HeadStep.{HeadStep}
+use Rattle.ch_sql_grammar.specs.declared.head.HeadStep.TheVariants as headstep
+use Rattle.ch_sql_grammar.specs.declared.head.HeadTaker.{HeadTaker}
+use Rattle.ch_sql_grammar.specs.declared.head.HeadTaker.TheVariants as taker
+use Rattle.ch_sql_grammar.specs.HeadSteps.{name_given, step_of}
+use Rattle.ch_sql_grammar.specs.Tokens.{has_mark, name_in}
+use Rattle.ch_sql_places.specs.Machine.{is_semi}
 use Rattle.ch_sql.specs.Behind.{takes_inner, is_inner}
 
 abbrev pub StaysInner : HeadStep → Type 0

@@ -1,19 +1,19 @@
 -- Behind WHERE: where no key, IN, parenthesis and SELECT come, the tokens give what a predicate's give.
 use Rattle.std.proofs.Common.{◌≡◌, ◌∙◌, ℕ, ◌+◌, Bool, true, false, not, ◌&&◌, ◌||◌, List, [], Option, Some, None, option_map, option_and_then, Err, refl, sym, ap, if◌then◌else◌, arith}
 use Rattle.std.specs.Prelude.{slice_get}
-use Rattle.ch_grammar.specs.declared.tok.Mark.TheVariants as mark
-use Rattle.ch_grammar.specs.declared.tok.Tok.{Tok}
-use Rattle.ch_grammar.specs.declared.tok.Tok.TheVariants as tok
-use Rattle.ch_grammar.specs.declared.query.ColumnRef.{ColumnRef}
-use Rattle.ch_grammar.specs.declared.error.ParseError.{ParseError}
-use Rattle.ch_grammar.specs.declared.error.ParseError.TheVariants as error
-use Rattle.ch_grammar.specs.declared.head.Head.{Head}
-use Rattle.ch_grammar.specs.declared.head.HeadPlace.TheVariants as head
-use Rattle.ch_grammar.specs.declared.head.HeadTaker.TheVariants as taker
-use Rattle.ch_grammar.specs.Tokens.{has_mark, name_in, is_there, marked, name_at}
-use Rattle.ch_places.specs.Machine.{Place, Taker, Heading, Lead, LeadCol, LeadIn, LeadListed, First, Leading, Want, Name, Dot, Atom, In, Listed, whole, outer_of, took, goes}
-use Rattle.ch_places.specs.Parsing.{parse_at}
-use Rattle.ch_places.proofs.Leads.{mark_is}
+use Rattle.ch_sql_grammar.specs.declared.tok.Mark.TheVariants as mark
+use Rattle.ch_sql_grammar.specs.declared.tok.Tok.{Tok}
+use Rattle.ch_sql_grammar.specs.declared.tok.Tok.TheVariants as tok
+use Rattle.ch_sql_grammar.specs.declared.query.ColumnRef.{ColumnRef}
+use Rattle.ch_sql_grammar.specs.declared.error.ParseError.{ParseError}
+use Rattle.ch_sql_grammar.specs.declared.error.ParseError.TheVariants as error
+use Rattle.ch_sql_grammar.specs.declared.head.Head.{Head}
+use Rattle.ch_sql_grammar.specs.declared.head.HeadPlace.TheVariants as head
+use Rattle.ch_sql_grammar.specs.declared.head.HeadTaker.TheVariants as taker
+use Rattle.ch_sql_grammar.specs.Tokens.{has_mark, name_in, is_there, marked, name_at}
+use Rattle.ch_sql_places.specs.Machine.{Place, Taker, Heading, Lead, LeadCol, LeadIn, LeadListed, First, Leading, Want, Name, Dot, Atom, In, Listed, whole, outer_of, took, goes}
+use Rattle.ch_sql_places.specs.Parsing.{parse_at}
+use Rattle.ch_sql_places.proofs.Leads.{mark_is}
 use Rattle.ch_filter.proofs.Rules.{Answer, at_place, parse_is, bare, of_table, name_rule, dot_rule, in_rule}
 use Rattle.ch_sql.specs.Behind.{opens_select}
 use Rattle.ch_sql.proofs.Stepping.{both}

@@ -1,16 +1,16 @@
 -- What the whole reading says of its result.
 use Rattle.std.proofs.Common.{◌≡◌, ◌∙◌, List, Result, Ok, Err, IfOk, IfErr, refl, sym, subst}
-use Rattle.ch_tokens.specs.declared.token.Token.{Token}
-use Rattle.ch_grammar.specs.declared.tok.Tok.{Tok}
-use Rattle.ch_grammar.specs.declared.error.ParseError.{ParseError}
-use Rattle.ch_grammar.specs.declared.error.ParseError.TheVariants as error
-use Rattle.ch_grammar.specs.declared.query.Query.{Query}
-use Rattle.ch_grammar.specs.Tree.{Select, select_of}
-use Rattle.ch_places.specs.Machine.{parse_from, start}
-use Rattle.ch_places.specs.Parsing.{parse_at, Moves}
-use Rattle.ch_places.proofs.Refused.{refusals}
-use Rattle.ch_limits.specs.Limits.{IsQueryWithin}
-use Rattle.ch_limits.proofs.Within.{within_read, read_within}
+use Rattle.ch_sql_tokens.specs.declared.token.Token.{Token}
+use Rattle.ch_sql_grammar.specs.declared.tok.Tok.{Tok}
+use Rattle.ch_sql_grammar.specs.declared.error.ParseError.{ParseError}
+use Rattle.ch_sql_grammar.specs.declared.error.ParseError.TheVariants as error
+use Rattle.ch_sql_grammar.specs.declared.query.Query.{Query}
+use Rattle.ch_sql_grammar.specs.Tree.{Select, select_of}
+use Rattle.ch_sql_places.specs.Machine.{parse_from, start}
+use Rattle.ch_sql_places.specs.Parsing.{parse_at, Moves}
+use Rattle.ch_sql_places.proofs.Refused.{refusals}
+use Rattle.ch_sql_limits.specs.Limits.{IsQueryWithin}
+use Rattle.ch_sql_limits.proofs.Within.{within_read, read_within}
 use Rattle.ch_sql.specs.Parsed.{seen, IsParsed, IsParseError, Parses}
 
 abbrev Answered : List Tok → Result Query ParseError → Type 0

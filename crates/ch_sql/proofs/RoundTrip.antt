@@ -2,15 +2,15 @@
 use Rattle.std.proofs.Common.{◌≡◌, ℕ, List, [], ◌∷◌, Ok}
 use Rattle.std.specs.List.{All}
 use Rattle.std.proofs.lemmas.List.Elements.{All-cons, All-nil}
-use Rattle.ch_tokens.specs.declared.token.Token.{Token}
-use Rattle.ch_tokens.specs.Spelling.{IsToken}
-use Rattle.ch_tokens.specs.Lexed.{IsQueryText, Reads}
-use Rattle.ch_grammar.specs.Tree.{Select}
-use Rattle.ch_places.specs.Machine.{parse_from, start}
-use Rattle.ch_limits.proofs.Within.{read_within, within_read}
-use Rattle.ch_query_text.specs.Law.{text_tokens}
-use Rattle.ch_query_text.specs.Printed.{query_text}
-use Rattle.ch_query_text.proofs.Reread.{read_again}
+use Rattle.ch_sql_tokens.specs.declared.token.Token.{Token}
+use Rattle.ch_sql_tokens.specs.Spelling.{IsToken}
+use Rattle.ch_sql_tokens.specs.Lexed.{IsQueryText, Reads}
+use Rattle.ch_sql_grammar.specs.Tree.{Select}
+use Rattle.ch_sql_places.specs.Machine.{parse_from, start}
+use Rattle.ch_sql_limits.proofs.Within.{read_within, within_read}
+use Rattle.ch_sql_text.specs.Law.{text_tokens}
+use Rattle.ch_sql_text.specs.Printed.{query_text}
+use Rattle.ch_sql_text.proofs.Reread.{read_again}
 use Rattle.ch_sql.specs.Parsed.{seen}
 use Rattle.ch_sql.specs.RoundTrip.{ReadsAgain}
 

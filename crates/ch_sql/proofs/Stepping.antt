@@ -1,27 +1,27 @@
 -- What a token does at the places of heads and tails, and behind a head.
 use Rattle.std.proofs.Common.{◌≡◌, ◌∙◌, ℕ, ◌+◌, Bool, true, false, not, ◌&&◌, List, [], ◌∷◌, Option, Some, None, option_map, Result, Ok, Err, IfOk, refl, sym, ap, if◌then◌else◌}
 use Rattle.std.specs.Prelude.{slice_get}
-use Rattle.ch_grammar.specs.declared.tok.Mark.TheVariants as mark
-use Rattle.ch_grammar.specs.declared.tok.Tok.{Tok}
-use Rattle.ch_grammar.specs.declared.error.ParseError.{ParseError}
-use Rattle.ch_grammar.specs.declared.error.ParseError.TheVariants as error
-use Rattle.ch_grammar.specs.declared.query.Source.{Source}
-use Rattle.ch_grammar.specs.declared.query.Source.TheVariants as source
-use Rattle.ch_grammar.specs.declared.query.Tail.{Tail}
-use Rattle.ch_grammar.specs.declared.query.Tail.TheVariants as tail
-use Rattle.ch_grammar.specs.declared.head.Head.{Head}
-use Rattle.ch_grammar.specs.declared.head.HeadPlace.{HeadPlace}
-use Rattle.ch_grammar.specs.declared.head.HeadPlace.TheVariants as head
-use Rattle.ch_grammar.specs.declared.head.HeadStep.{HeadStep}
-use Rattle.ch_grammar.specs.declared.head.HeadStep.TheVariants as headstep
-use Rattle.ch_grammar.specs.declared.tail.TailPlace.{TailPlace}
-use Rattle.ch_grammar.specs.declared.tail.TailPlace.TheVariants as place
-use Rattle.ch_grammar.specs.HeadSteps as heads
-use Rattle.ch_grammar.specs.TailSteps as tails
-use Rattle.ch_grammar.specs.Tokens.{has_mark, is_there, marked}
-use Rattle.ch_grammar.specs.Tree.{Plain}
-use Rattle.ch_places.specs.Machine.{Place, Heading, Lead, Want, Tailing, Conjs, Whole, whole, is_one, is_semi, takes_tail, may_be_outer, selected, headed, tailing, goes, ends}
-use Rattle.ch_places.specs.Parsing.{parse_at, Moves}
+use Rattle.ch_sql_grammar.specs.declared.tok.Mark.TheVariants as mark
+use Rattle.ch_sql_grammar.specs.declared.tok.Tok.{Tok}
+use Rattle.ch_sql_grammar.specs.declared.error.ParseError.{ParseError}
+use Rattle.ch_sql_grammar.specs.declared.error.ParseError.TheVariants as error
+use Rattle.ch_sql_grammar.specs.declared.query.Source.{Source}
+use Rattle.ch_sql_grammar.specs.declared.query.Source.TheVariants as source
+use Rattle.ch_sql_grammar.specs.declared.query.Tail.{Tail}
+use Rattle.ch_sql_grammar.specs.declared.query.Tail.TheVariants as tail
+use Rattle.ch_sql_grammar.specs.declared.head.Head.{Head}
+use Rattle.ch_sql_grammar.specs.declared.head.HeadPlace.{HeadPlace}
+use Rattle.ch_sql_grammar.specs.declared.head.HeadPlace.TheVariants as head
+use Rattle.ch_sql_grammar.specs.declared.head.HeadStep.{HeadStep}
+use Rattle.ch_sql_grammar.specs.declared.head.HeadStep.TheVariants as headstep
+use Rattle.ch_sql_grammar.specs.declared.tail.TailPlace.{TailPlace}
+use Rattle.ch_sql_grammar.specs.declared.tail.TailPlace.TheVariants as place
+use Rattle.ch_sql_grammar.specs.HeadSteps as heads
+use Rattle.ch_sql_grammar.specs.TailSteps as tails
+use Rattle.ch_sql_grammar.specs.Tokens.{has_mark, is_there, marked}
+use Rattle.ch_sql_grammar.specs.Tree.{Plain}
+use Rattle.ch_sql_places.specs.Machine.{Place, Heading, Lead, Want, Tailing, Conjs, Whole, whole, is_one, is_semi, takes_tail, may_be_outer, selected, headed, tailing, goes, ends}
+use Rattle.ch_sql_places.specs.Parsing.{parse_at, Moves}
 use Rattle.ch_filter.proofs.Moving.{fails_along}
 use Rattle.ch_filter.proofs.Rules.{Answer, at_place, parse_is, conjs_rule, filter_rule}
 use Rattle.ch_sql.specs.Behind.{behind_head}

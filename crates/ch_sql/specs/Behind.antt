@@ -1,20 +1,20 @@
 -- What stands behind a head, in words of the places.
 use Rattle.std.specs.Prelude.{ℕ, ◌+◌, ◌≡◌, ◌&&◌, Bool, true, false, List, Option, Some, None, Result, if◌then◌else◌}
-use Rattle.ch_grammar.specs.declared.tok.Mark.{Mark}
-use Rattle.ch_grammar.specs.declared.tok.Mark.TheVariants as mark
-use Rattle.ch_grammar.specs.declared.tok.Tok.{Tok}
-use Rattle.ch_grammar.specs.declared.query.ColumnRef.{ColumnRef}
-use Rattle.ch_grammar.specs.declared.error.ParseError.{ParseError}
-use Rattle.ch_grammar.specs.declared.head.Head.{Head}
-use Rattle.ch_grammar.specs.declared.head.HeadPlace.{HeadPlace}
-use Rattle.ch_grammar.specs.declared.head.HeadPlace.TheVariants as head
-use Rattle.ch_grammar.specs.declared.head.HeadTaker.{HeadTaker}
-use Rattle.ch_grammar.specs.declared.head.HeadTaker.TheVariants as taker
-use Rattle.ch_grammar.specs.declared.tail.TailPlace.TheVariants as place
-use Rattle.ch_grammar.specs.Tokens.{marked}
-use Rattle.ch_grammar.specs.Tree.{Select}
-use Rattle.ch_places.specs.Machine.{Heading, Lead, Want, Tailing, whole, is_semi, outer_of, takes_tail}
-use Rattle.ch_places.specs.Parsing.{parse_at}
+use Rattle.ch_sql_grammar.specs.declared.tok.Mark.{Mark}
+use Rattle.ch_sql_grammar.specs.declared.tok.Mark.TheVariants as mark
+use Rattle.ch_sql_grammar.specs.declared.tok.Tok.{Tok}
+use Rattle.ch_sql_grammar.specs.declared.query.ColumnRef.{ColumnRef}
+use Rattle.ch_sql_grammar.specs.declared.error.ParseError.{ParseError}
+use Rattle.ch_sql_grammar.specs.declared.head.Head.{Head}
+use Rattle.ch_sql_grammar.specs.declared.head.HeadPlace.{HeadPlace}
+use Rattle.ch_sql_grammar.specs.declared.head.HeadPlace.TheVariants as head
+use Rattle.ch_sql_grammar.specs.declared.head.HeadTaker.{HeadTaker}
+use Rattle.ch_sql_grammar.specs.declared.head.HeadTaker.TheVariants as taker
+use Rattle.ch_sql_grammar.specs.declared.tail.TailPlace.TheVariants as place
+use Rattle.ch_sql_grammar.specs.Tokens.{marked}
+use Rattle.ch_sql_grammar.specs.Tree.{Select}
+use Rattle.ch_sql_places.specs.Machine.{Heading, Lead, Want, Tailing, whole, is_semi, outer_of, takes_tail}
+use Rattle.ch_sql_places.specs.Parsing.{parse_at}
 
 abbrev pub takes_inner : HeadTaker → Bool
 takes_inner (taker.InnerKey items outer key) = true

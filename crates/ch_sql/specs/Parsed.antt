@@ -1,16 +1,16 @@
 -- What the results of `parse` say of the tokens.
 use Rattle.std.specs.Prelude.{◌≡◌, List, map, Result, Ok, Err}
-use Rattle.ch_tokens.specs.declared.token.Token.{Token}
-use Rattle.ch_grammar.specs.declared.tok.Tok.{Tok}
-use Rattle.ch_grammar.specs.declared.query.Query.{Query}
-use Rattle.ch_grammar.specs.declared.error.ParseError.{ParseError}
-use Rattle.ch_grammar.specs.declared.error.ParseError.TheVariants as error
-use Rattle.ch_grammar.specs.Tokens.{tok_of}
-use Rattle.ch_grammar.specs.Tree.{Select, select_of}
-use Rattle.ch_places.specs.Machine.{parse_from, start}
-use Rattle.ch_places.specs.Parsing.{Fails}
-use Rattle.ch_places.specs.Refusal.{IsRefusal}
-use Rattle.ch_limits.specs.Limits.{IsQueryWithin}
+use Rattle.ch_sql_tokens.specs.declared.token.Token.{Token}
+use Rattle.ch_sql_grammar.specs.declared.tok.Tok.{Tok}
+use Rattle.ch_sql_grammar.specs.declared.query.Query.{Query}
+use Rattle.ch_sql_grammar.specs.declared.error.ParseError.{ParseError}
+use Rattle.ch_sql_grammar.specs.declared.error.ParseError.TheVariants as error
+use Rattle.ch_sql_grammar.specs.Tokens.{tok_of}
+use Rattle.ch_sql_grammar.specs.Tree.{Select, select_of}
+use Rattle.ch_sql_places.specs.Machine.{parse_from, start}
+use Rattle.ch_sql_places.specs.Parsing.{Fails}
+use Rattle.ch_sql_places.specs.Refusal.{IsRefusal}
+use Rattle.ch_sql_limits.specs.Limits.{IsQueryWithin}
 
 -- the tokens as the grammar sees them
 abbrev pub seen : List Token → List Tok

@@ -1,12 +1,12 @@
 ghost use Rattle.std.specs.Prelude.{◌≡◌, Option, Ok, option_map};
-ghost use Rattle.ch_grammar.specs.declared.head.Head.{Head};
-ghost use Rattle.ch_grammar.specs.Tree.{Plain, plain_of};
-ghost use Rattle.ch_places.specs.Machine.{Tailing, is_semi, selected, takes_tail};
-ghost use Rattle.ch_places.specs.Parsing.{parse_at, Moves};
+ghost use Rattle.ch_sql_grammar.specs.declared.head.Head.{Head};
+ghost use Rattle.ch_sql_grammar.specs.Tree.{Plain, plain_of};
+ghost use Rattle.ch_sql_places.specs.Machine.{Tailing, is_semi, selected, takes_tail};
+ghost use Rattle.ch_sql_places.specs.Parsing.{parse_at, Moves};
 ghost use Rattle.ch_sql.specs.Behind.{behind_head};
 
 use ch_filter::{conj, mark_at, pred};
-use ch_grammar::{Head, Mark, ParseError, Pred, Source, Tail, TailPlace, Tok};
+use ch_sql_grammar::{Head, Mark, ParseError, Pred, Source, Tail, TailPlace, Tok};
 use ch_steps::{tail_end, tail_step};
 use std::alloc::Global;
 

@@ -1,14 +1,14 @@
 ghost use Rattle.std.specs.Prelude.{◌≡◌, IfOk, true};
 ghost use Rattle.std.specs.List.{list_all};
-ghost use Rattle.ch_grammar.specs.declared.head.Head.{Head};
-ghost use Rattle.ch_grammar.specs.Grammar.{is_plain_item};
-ghost use Rattle.ch_places.specs.Machine.{Heading, is_one, is_semi, outer_of, takes_tail, may_be_outer};
-ghost use Rattle.ch_places.specs.Parsing.{parse_at, Moves};
+ghost use Rattle.ch_sql_grammar.specs.declared.head.Head.{Head};
+ghost use Rattle.ch_sql_grammar.specs.Grammar.{is_plain_item};
+ghost use Rattle.ch_sql_places.specs.Machine.{Heading, is_one, is_semi, outer_of, takes_tail, may_be_outer};
+ghost use Rattle.ch_sql_places.specs.Parsing.{parse_at, Moves};
 ghost use Rattle.ch_sql.specs.Behind.{is_inner, opens_select, LeadsTo, behind_head};
 
 use ch_cells::{Bytes, Memory};
 use ch_filter::{mark_at, name_there};
-use ch_grammar::{
+use ch_sql_grammar::{
     ColumnRef, Head, HeadPlace, HeadStep, HeadTaker, Item, Mark, ParseError, Source, Tok,
 };
 use ch_steps::{head_end, head_step};

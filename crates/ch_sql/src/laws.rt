@@ -1,12 +1,12 @@
 //! What holds of all queries, as contracts of functions that do nothing.
 ghost use Rattle.std.specs.Prelude.{◌≡◌, List, Ok, ℕ};
 ghost use Rattle.std.specs.List.{All};
-ghost use Rattle.ch_tokens.specs.declared.token.Token.{Token};
-ghost use Rattle.ch_tokens.specs.Spelling.{IsToken};
-ghost use Rattle.ch_tokens.specs.Lexed.{IsLexed, IsQueryText};
-ghost use Rattle.ch_grammar.specs.Tree.{Select};
-ghost use Rattle.ch_places.specs.Machine.{parse_from, start};
-ghost use Rattle.ch_query_text.specs.Printed.{query_text};
+ghost use Rattle.ch_sql_tokens.specs.declared.token.Token.{Token};
+ghost use Rattle.ch_sql_tokens.specs.Spelling.{IsToken};
+ghost use Rattle.ch_sql_tokens.specs.Lexed.{IsLexed, IsQueryText};
+ghost use Rattle.ch_sql_grammar.specs.Tree.{Select};
+ghost use Rattle.ch_sql_places.specs.Machine.{parse_from, start};
+ghost use Rattle.ch_sql_text.specs.Printed.{query_text};
 ghost use Rattle.ch_sql.specs.Parsed.{seen};
 ghost use Rattle.ch_sql.specs.RoundTrip.{ReadsAgain};
 

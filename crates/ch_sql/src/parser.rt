@@ -1,15 +1,15 @@
 ghost use Rattle.std.specs.Prelude.{◌≡◌, IfErr, IfOk, Ok};
-ghost use Rattle.ch_grammar.specs.Tree.{Select, select_of};
-ghost use Rattle.ch_limits.specs.Limits.{IsQueryWithin};
-ghost use Rattle.ch_places.specs.Machine.{start};
-ghost use Rattle.ch_places.specs.Parsing.{parse_at, Moves};
+ghost use Rattle.ch_sql_grammar.specs.Tree.{Select, select_of};
+ghost use Rattle.ch_sql_limits.specs.Limits.{IsQueryWithin};
+ghost use Rattle.ch_sql_places.specs.Machine.{start};
+ghost use Rattle.ch_sql_places.specs.Parsing.{parse_at, Moves};
 ghost use Rattle.ch_sql.specs.Parsed.{seen, IsParsed, IsParseError, Parses};
 
 use crate::behind::{filter, tail_from};
 use crate::heads::{head_from, may_end_in_tail, semi_join};
 use ch_cells::Listed;
-use ch_grammar::{HeadPlace, ParseError, Query, TailPlace, Tok, toks_of};
-use ch_tokens::Token;
+use ch_sql_grammar::{HeadPlace, ParseError, Query, TailPlace, Tok, toks_of};
+use ch_sql_tokens::Token;
 use std::alloc::Global;
 
 /// The query that the tokens are as the grammar sees them.

@@ -1,11 +1,11 @@
 ghost use Rattle.std.specs.Prelude.{◌≡◌, IfOk};
-ghost use Rattle.ch_grammar.specs.Tokens.{name_in};
-ghost use Rattle.ch_grammar.specs.declared.head.HeadPlace.TheVariants as place;
-ghost use Rattle.ch_grammar.specs.Tree.{bare_col};
-ghost use Rattle.ch_grammar.specs.HeadSteps.{on_mark, join_head, semi_head, step_of, settled_of, items_step_of, listing_step_of, closing_step_of, table_step_of, dotted_step, named_step, name_given, name_step_of, mark_step_of, taken_by, settled_end, end_of};
+ghost use Rattle.ch_sql_grammar.specs.Tokens.{name_in};
+ghost use Rattle.ch_sql_grammar.specs.declared.head.HeadPlace.TheVariants as place;
+ghost use Rattle.ch_sql_grammar.specs.Tree.{bare_col};
+ghost use Rattle.ch_sql_grammar.specs.HeadSteps.{on_mark, join_head, semi_head, step_of, settled_of, items_step_of, listing_step_of, closing_step_of, table_step_of, dotted_step, named_step, name_given, name_step_of, mark_step_of, taken_by, settled_end, end_of};
 
 use ch_cells::{Bytes, Listed, Memory};
-use ch_grammar::{
+use ch_sql_grammar::{
     ColumnRef, Head, HeadPlace, HeadStep, HeadTaker, Item, Mark, Source, Tok, is_mark,
 };
 use std::alloc::Global;
@@ -26,6 +26,7 @@ fn on(token: &Tok, mark: Mark, next: HeadPlace) -> HeadStep
     if is_mark(mark, token) {
         HeadStep::On(next)
     } else {
+        drop(next);
         HeadStep::Stuck
     }
 }
@@ -143,9 +144,16 @@ fn table_step(distinct: bool, items: Listed<Item>, table: Bytes, token: &Tok) ->
 fn take_step(alloc: Global, taker: HeadTaker, token: &Tok) -> Result<HeadStep, Memory>
     ensures { IfOk result (λ s. s ≡ name_step_of (place.Taking taker) token.now) }
 {
-    match copied_name(alloc, token)? {
-        Some(name) => Ok(HeadStep::On(HeadPlace::Name(taker, name))),
-        None => Ok(HeadStep::Stuck),
+    match copied_name(alloc, token) {
+        Ok(Some(name)) => Ok(HeadStep::On(HeadPlace::Name(taker, name))),
+        Ok(None) => {
+            drop(taker);
+            Ok(HeadStep::Stuck)
+        }
+        Err(error) => {
+            drop(taker);
+            Err(error)
+        }
     }
 }
 
@@ -164,9 +172,16 @@ fn dotted(taker: HeadTaker, table: Bytes, name: Bytes) -> Result<HeadStep, Memor
 fn dot_step(alloc: Global, taker: HeadTaker, table: Bytes, token: &Tok) -> Result<HeadStep, Memory>
     ensures { IfOk result (λ s. s ≡ name_step_of (place.Dot taker table) token.now) }
 {
-    match copied_name(alloc, token)? {
-        Some(name) => dotted(taker, table, name),
-        None => Ok(HeadStep::Stuck),
+    match copied_name(alloc, token) {
+        Ok(Some(name)) => dotted(taker, table, name),
+        Ok(None) => {
+            drop(taker);
+            Ok(HeadStep::Stuck)
+        }
+        Err(error) => {
+            drop(taker);
+            Err(error)
+        }
     }
 }
 
@@ -194,9 +209,16 @@ fn join_step(
 ) -> Result<HeadStep, Memory>
     ensures { IfOk result (λ s. s ≡ name_step_of (place.JoinTable items left) token.now) }
 {
-    match copied_name(alloc, token)? {
-        Some(name) => Ok(HeadStep::On(HeadPlace::On(items, left, name))),
-        None => Ok(HeadStep::Stuck),
+    match copied_name(alloc, token) {
+        Ok(Some(name)) => Ok(HeadStep::On(HeadPlace::On(items, left, name))),
+        Ok(None) => {
+            drop((items, left));
+            Ok(HeadStep::Stuck)
+        }
+        Err(error) => {
+            drop((items, left));
+            Err(error)
+        }
     }
 }
 
@@ -211,9 +233,18 @@ fn inner_step(
 ) -> Result<HeadStep, Memory>
     ensures { IfOk result (λ s. s ≡ name_step_of (place.InnerTable items outer key inner_key) token.now) }
 {
-    match copied_name(alloc, token)? {
-        Some(name) => Ok(HeadStep::On(HeadPlace::InnerClose(items, outer, key, inner_key, name))),
-        None => Ok(HeadStep::Stuck),
+    match copied_name(alloc, token) {
+        Ok(Some(name)) => Ok(HeadStep::On(HeadPlace::InnerClose(
+            items, outer, key, inner_key, name,
+        ))),
+        Ok(None) => {
+            drop((items, outer, key, inner_key));
+            Ok(HeadStep::Stuck)
+        }
+        Err(error) => {
+            drop((items, outer, key, inner_key));
+            Err(error)
+        }
     }
 }
 
@@ -348,7 +379,10 @@ fn ended_head(taker: HeadTaker, col: ColumnRef) -> Option<Head>
         HeadTaker::SecondOn(items, left, right, first_on) => {
             Some(joined(items, left, right, first_on, col))
         }
-        _ => None,
+        other => {
+            drop(other);
+            None
+        }
     }
 }
 
@@ -364,6 +398,9 @@ pub fn head_end(place: HeadPlace) -> Option<Head>
             source: Source::One(table),
         }),
         HeadPlace::Whole(head) => Some(head),
-        _ => None,
+        other => {
+            drop(other);
+            None
+        }
     }
 }

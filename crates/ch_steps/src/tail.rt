@@ -1,11 +1,13 @@
 ghost use Rattle.std.specs.Prelude.{◌≡◌, IfOk};
-ghost use Rattle.ch_grammar.specs.Tokens.{name_in};
-ghost use Rattle.ch_grammar.specs.declared.tail.TailPlace.TheVariants as place;
-ghost use Rattle.ch_grammar.specs.Tree.{bare_col};
-ghost use Rattle.ch_grammar.specs.TailSteps.{on_mark, step_of, settled_of, taken_by, start_step_of, direction_step_of, keys_step_of, having_step_of, dim_step_of, dims_step_of, dotted_step, named_step, name_step_of, numbered_step, number_step_of, mark_step_of, settled_end, end_of};
+ghost use Rattle.ch_sql_grammar.specs.Tokens.{name_in};
+ghost use Rattle.ch_sql_grammar.specs.declared.tail.TailPlace.TheVariants as place;
+ghost use Rattle.ch_sql_grammar.specs.Tree.{bare_col};
+ghost use Rattle.ch_sql_grammar.specs.TailSteps.{on_mark, step_of, settled_of, taken_by, start_step_of, direction_step_of, keys_step_of, having_step_of, dim_step_of, dims_step_of, dotted_step, named_step, name_step_of, numbered_step, number_step_of, mark_step_of, settled_end, end_of};
 
 use ch_cells::{Bytes, Listed, Memory};
-use ch_grammar::{Agg, ColumnRef, Having, Mark, SkyDim, Tail, TailPlace, TailTaker, Tok, is_mark};
+use ch_sql_grammar::{
+    Agg, ColumnRef, Having, Mark, SkyDim, Tail, TailPlace, TailTaker, Tok, is_mark,
+};
 use std::alloc::Global;
 
 fn copied_name(alloc: Global, token: &Tok) -> Result<Option<Bytes>, Memory>
@@ -24,6 +26,7 @@ fn on(token: &Tok, mark: Mark, next: TailPlace) -> Option<TailPlace>
     if is_mark(mark, token) {
         Some(next)
     } else {
+        drop(next);
         None
     }
 }
@@ -128,9 +131,16 @@ fn dims_step(dims: Listed<SkyDim>, token: &Tok) -> Option<TailPlace>
 fn take_step(alloc: Global, taker: TailTaker, token: &Tok) -> Result<Option<TailPlace>, Memory>
     ensures { IfOk result (λ o. o ≡ name_step_of (place.Taking taker) token.now) }
 {
-    match copied_name(alloc, token)? {
-        Some(name) => Ok(Some(TailPlace::Name(taker, name))),
-        None => Ok(None),
+    match copied_name(alloc, token) {
+        Ok(Some(name)) => Ok(Some(TailPlace::Name(taker, name))),
+        Ok(None) => {
+            drop(taker);
+            Ok(None)
+        }
+        Err(error) => {
+            drop(taker);
+            Err(error)
+        }
     }
 }
 
@@ -154,9 +164,16 @@ fn dot_step(
 ) -> Result<Option<TailPlace>, Memory>
     ensures { IfOk result (λ o. o ≡ name_step_of (place.Dot taker table) token.now) }
 {
-    match copied_name(alloc, token)? {
-        Some(name) => dotted(taker, table, name),
-        None => Ok(None),
+    match copied_name(alloc, token) {
+        Ok(Some(name)) => dotted(taker, table, name),
+        Ok(None) => {
+            drop(taker);
+            Ok(None)
+        }
+        Err(error) => {
+            drop(taker);
+            Err(error)
+        }
     }
 }
 
@@ -302,7 +319,10 @@ fn ended_tail(taker: TailTaker, col: ColumnRef) -> Result<Option<Tail>, Memory>
             keys.push(col)?;
             Ok(Some(Tail::Group { keys, having: None }))
         }
-        _ => Ok(None),
+        other => {
+            drop(other);
+            Ok(None)
+        }
     }
 }
 
@@ -317,6 +337,9 @@ pub fn tail_end(place: TailPlace) -> Result<Option<Tail>, Memory>
         TailPlace::Dims(dims) => Ok(Some(Tail::Skyline { dims })),
         TailPlace::Whole(tail) => Ok(Some(tail)),
         TailPlace::Ended(tail) => Ok(Some(tail)),
-        _ => Ok(None),
+        other => {
+            drop(other);
+            Ok(None)
+        }
     }
 }

@@ -1,7 +1,7 @@
 use crate::head::{head_end, head_step};
 use crate::tail::{tail_end, tail_step};
-use ch_grammar::{HeadPlace, HeadStep, TailPlace, Tok, toks_of};
-use ch_tokens::lex;
+use ch_sql_grammar::{HeadPlace, HeadStep, TailPlace, Tok, toks_of};
+use ch_sql_tokens::lex;
 use std::test::Fail;
 
 fn read(rt: &HostRuntime, text: &str) -> Result<Vec<Tok>, Fail> {

@@ -5,11 +5,11 @@ use Rattle.ch_command.specs.Outcome.{Outcome, answered, refused}
 use Rattle.ch_command.specs.declared.status.Refusal.TheVariants as refusal
 use Rattle.ch_command.specs.declared.stop.Stop.{Stop}
 use Rattle.ch_command.specs.declared.stop.Stop.TheVariants as stop
-use Rattle.ch_grammar.specs.Tree.{Select}
-use Rattle.ch_limits.specs.Limits.{IsQueryWithin}
+use Rattle.ch_sql_grammar.specs.Tree.{Select}
+use Rattle.ch_sql_limits.specs.Limits.{IsQueryWithin}
 use Rattle.ch_sql.specs.Parsed.{seen}
 use Rattle.ch_tables.specs.TableValue.{TableValue}
-use Rattle.ch_tokens.specs.declared.Token.{Token}
+use Rattle.ch_sql_tokens.specs.declared.Token.{Token}
 use Rattle.cheetah.specs.Answering.{OfTokens, answer_to}
 
 comes_by : (P Q : Outcome → Type 0) → ((outcome : Outcome) → P outcome → Q outcome) → (verdict : Result (List ℕ) Stop) → Comes P verdict → Comes Q verdict

@@ -4,7 +4,7 @@ use Rattle.ch_command.proofs.Outcomes.{Total, Unique, read_one, read_some}
 use Rattle.ch_command.specs.Lines.{no_words_line}
 use Rattle.ch_command.specs.Outcome.{Outcome, refused}
 use Rattle.ch_command.specs.Reading.{contents_of, limit_after}
-use Rattle.ch_limits.proofs.Within.{within_read}
+use Rattle.ch_sql_limits.proofs.Within.{within_read}
 use Rattle.ch_outside.specs.Shelf.{Files}
 use Rattle.ch_refusals.proofs.Given as parsed
 use Rattle.ch_refusals.proofs.Scanned as scanned
@@ -12,7 +12,7 @@ use Rattle.ch_sql.specs.Parsed.{seen}
 use Rattle.ch_tables.specs.Table.{table_of}
 use Rattle.ch_tables.specs.TableValue.{TableValue}
 use Rattle.ch_tables.specs.declared.TableError.{TableError}
-use Rattle.ch_tokens.specs.declared.Token.{Token}
+use Rattle.ch_sql_tokens.specs.declared.Token.{Token}
 use Rattle.cheetah.specs.Answering.{Answers, OfTable, OfText, OfTokens, answer_to, room}
 use Rattle.cheetah.specs.Lines.{lex_line, parse_line, table_line}
 use Rattle.cheetah.specs.Result.{ComesTo, bad_table_line, wrong_words_line}

@@ -4,11 +4,11 @@ use Rattle.ch_cells.specs.Row.{ascending}
 use Rattle.ch_cells.specs.declared.Answer.{Answer}
 use Rattle.ch_cells.specs.declared.Cell.{Cell}
 use Rattle.ch_command.specs.Outcome.{Outcome, answered, refused}
-use Rattle.ch_grammar.specs.declared.error.ParseError.{ParseError}
-use Rattle.ch_grammar.specs.declared.error.ParseError.TheVariants as parse
-use Rattle.ch_grammar.specs.Tree.{Select}
-use Rattle.ch_limits.specs.Limits.{IsQueryWithin}
-use Rattle.ch_places.specs.Refusal.{IsRefusal}
+use Rattle.ch_sql_grammar.specs.declared.error.ParseError.{ParseError}
+use Rattle.ch_sql_grammar.specs.declared.error.ParseError.TheVariants as parse
+use Rattle.ch_sql_grammar.specs.Tree.{Select}
+use Rattle.ch_sql_limits.specs.Limits.{IsQueryWithin}
+use Rattle.ch_sql_places.specs.Refusal.{IsRefusal}
 use Rattle.ch_pred.specs.Meaning.{meaning}
 use Rattle.ch_pred.specs.declared.Bound.{Bound}
 use Rattle.ch_print.specs.AnswerText.{text_of}
@@ -16,10 +16,10 @@ use Rattle.ch_sql.specs.Parsed.{seen}
 use Rattle.ch_tables.specs.TableValue.{TableValue}
 use Rattle.ch_tables.specs.declared.Room.{Room}
 use Rattle.ch_tables.specs.declared.TableError.{TableError}
-use Rattle.ch_tokens.specs.Lexed.{IsLexed, IsLexError, IsQueryText}
-use Rattle.ch_tokens.specs.declared.LexError.{LexError}
-use Rattle.ch_tokens.specs.declared.LexError.TheVariants as lex
-use Rattle.ch_tokens.specs.declared.Token.{Token}
+use Rattle.ch_sql_tokens.specs.Lexed.{IsLexed, IsLexError, IsQueryText}
+use Rattle.ch_sql_tokens.specs.declared.LexError.{LexError}
+use Rattle.ch_sql_tokens.specs.declared.LexError.TheVariants as lex
+use Rattle.ch_sql_tokens.specs.declared.Token.{Token}
 use Rattle.cheetah.specs.Binding.{bound_of}
 use Rattle.cheetah.specs.Lines.{lex_line, parse_line, table_line}
 use Rattle.cheetah.specs.Plain.{plain_query}

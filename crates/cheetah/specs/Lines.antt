@@ -3,12 +3,12 @@ use Rattle.std.specs.Prelude.{ℕ, List, [], ◌∷◌, codes}
 use Rattle.std.specs.Fmt.{decimal}
 use Rattle.std.specs.List.{concat}
 use Rattle.ch_command.specs.Lines.{memory_line}
-use Rattle.ch_grammar.specs.declared.error.ParseError.{ParseError}
-use Rattle.ch_grammar.specs.declared.error.ParseError.TheVariants as parse
+use Rattle.ch_sql_grammar.specs.declared.error.ParseError.{ParseError}
+use Rattle.ch_sql_grammar.specs.declared.error.ParseError.TheVariants as parse
 use Rattle.ch_tables.specs.declared.TableError.{TableError}
 use Rattle.ch_tables.specs.declared.TableError.TheVariants as table
-use Rattle.ch_tokens.specs.declared.LexError.{LexError}
-use Rattle.ch_tokens.specs.declared.LexError.TheVariants as lex
+use Rattle.ch_sql_tokens.specs.declared.LexError.{LexError}
+use Rattle.ch_sql_tokens.specs.declared.LexError.TheVariants as lex
 
 abbrev pub table_line : List ℕ → TableError → List ℕ
 table_line name (table.NoHeader part) = concat (codes "input: table " ∷ name ∷ codes " part " ∷ decimal part ∷ codes ": no header\n" ∷ [])

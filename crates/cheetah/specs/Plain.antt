@@ -1,15 +1,15 @@
 -- Plain queries: those that are answered today.
 use Rattle.std.specs.Prelude.{ℕ, ℤ, Bool, true, false, ◌&&◌, not, List, [], ◌∷◌, Option, Some, None, option_and_then, if◌then◌else◌}
-use Rattle.ch_grammar.specs.declared.query.ColumnRef.{ColumnRef}
-use Rattle.ch_grammar.specs.declared.query.Item.{Item}
-use Rattle.ch_grammar.specs.declared.query.Item.TheVariants as item
-use Rattle.ch_grammar.specs.declared.query.Side.{Side}
-use Rattle.ch_grammar.specs.declared.query.Side.TheVariants as side
-use Rattle.ch_grammar.specs.declared.query.Source.{Source}
-use Rattle.ch_grammar.specs.declared.query.Source.TheVariants as source
-use Rattle.ch_grammar.specs.declared.query.Tail.{Tail}
-use Rattle.ch_grammar.specs.declared.query.Tail.TheVariants as tail
-use Rattle.ch_grammar.specs.Tree.{Plain, Compare, Between, Within, Like, And, Or, Not, Select}
+use Rattle.ch_sql_grammar.specs.declared.query.ColumnRef.{ColumnRef}
+use Rattle.ch_sql_grammar.specs.declared.query.Item.{Item}
+use Rattle.ch_sql_grammar.specs.declared.query.Item.TheVariants as item
+use Rattle.ch_sql_grammar.specs.declared.query.Side.{Side}
+use Rattle.ch_sql_grammar.specs.declared.query.Side.TheVariants as side
+use Rattle.ch_sql_grammar.specs.declared.query.Source.{Source}
+use Rattle.ch_sql_grammar.specs.declared.query.Source.TheVariants as source
+use Rattle.ch_sql_grammar.specs.declared.query.Tail.{Tail}
+use Rattle.ch_sql_grammar.specs.declared.query.Tail.TheVariants as tail
+use Rattle.ch_sql_grammar.specs.Tree.{Plain, Compare, Between, Within, Like, And, Or, Not, Select}
 use Rattle.ch_pred.specs.declared.Cmp.{Cmp}
 use Rattle.ch_pred.specs.declared.Literal.{Literal}
 use Rattle.ch_pred.specs.declared.Literal.TheVariants as literal

@@ -1,7 +1,7 @@
 ghost use Rattle.std.specs.Prelude.{◌≡◌, ◌≤◌, ◌∷◌, [], length};
 ghost use Rattle.ch_command.specs.Ending.{Comes};
 ghost use Rattle.ch_command.specs.Reading.{most_bytes};
-ghost use Rattle.ch_grammar.specs.Tree.{select_of};
+ghost use Rattle.ch_sql_grammar.specs.Tree.{select_of};
 ghost use Rattle.ch_tables.specs.Table.{table_of};
 ghost use Rattle.cheetah.specs.Answering.{OfTable, OfText, OfTokens, answer_to, room};
 

@@ -1,5 +1,5 @@
 ghost use Rattle.std.specs.Prelude.{◌≡◌, option_map, option_and_then};
-ghost use Rattle.ch_grammar.specs.Tree.{plain_of, select_of};
+ghost use Rattle.ch_sql_grammar.specs.Tree.{plain_of, select_of};
 ghost use Rattle.cheetah.specs.Plain.{bare_name, is_nothing, item_name, literal_number, one_table, only_name, plain_query, query_of, side_number, test_in, test_of, test_with};
 
 use ch_pred::{Cmp, Literal};

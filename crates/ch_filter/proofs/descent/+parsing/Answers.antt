@@ -1,11 +1,11 @@
 use Rattle.std.proofs.Common.{◌≡◌, ◌+◌, ◌∙◌, ◌++◌, ◌∷◌, [], map, refl, true, false, sym, ap, nat_lt, arith}
 use Rattle.std.proofs.lemmas.List.{map-append}
 use Rattle.std.proofs.lemmas.Bool.Decides.{nat_tests}
-use Rattle.ch_grammar.specs.declared.tok.Mark.TheVariants as mark
-use Rattle.ch_places.specs.Machine.{Member, Negated, Group, Negs, Conjs, Closed, depth_of}
-use Rattle.ch_grammar.specs.Tokens.{marked}
-use Rattle.ch_grammar.specs.Tree.{plain_of}
-use Rattle.ch_places.specs.Parsing.{parse_at}
+use Rattle.ch_sql_grammar.specs.declared.tok.Mark.TheVariants as mark
+use Rattle.ch_sql_places.specs.Machine.{Member, Negated, Group, Negs, Conjs, Closed, depth_of}
+use Rattle.ch_sql_grammar.specs.Tokens.{marked}
+use Rattle.ch_sql_grammar.specs.Tree.{plain_of}
+use Rattle.ch_sql_places.specs.Parsing.{parse_at}
 use Rattle.ch_filter.proofs.Rules.{want_rule, negs_rule, conjs_rule, group_rule}
 use Rattle.ch_filter.proofs.Moving.{exits, along}
 use Rattle.ch_filter.proofs.descent.+parsing.Goals as goal

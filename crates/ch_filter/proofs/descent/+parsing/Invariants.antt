@@ -1,7 +1,7 @@
 use Rattle.std.proofs.Common.{◌≡◌, true, ◌<◌, ◌-◌, ◌+◌, ◌*◌, length, [], List, map}
-use Rattle.ch_places.specs.Machine.{Level, Want, Member, Negs, Conjs, level_depth, takes_or}
-use Rattle.ch_grammar.specs.Tree.{Plain, plain_of}
-use Rattle.ch_places.specs.Parsing.{parse_at}
+use Rattle.ch_sql_places.specs.Machine.{Level, Want, Member, Negs, Conjs, level_depth, takes_or}
+use Rattle.ch_sql_grammar.specs.Tree.{Plain, plain_of}
+use Rattle.ch_sql_places.specs.Parsing.{parse_at}
 use Rattle.ch_filter.proofs.descent.+parsing.Given as goal
 
 abbrev pub decreases-pred : goal.decreases-pred

@@ -1,7 +1,7 @@
 use Rattle.std.proofs.Common.{◌≡◌, ◌∙◌, refl, true, false, arith}
-use Rattle.ch_grammar.specs.declared.tok.Mark.TheVariants as mark
-use Rattle.ch_places.specs.Machine.{First}
-use Rattle.ch_grammar.specs.Tokens.{marked}
+use Rattle.ch_sql_grammar.specs.declared.tok.Mark.TheVariants as mark
+use Rattle.ch_sql_places.specs.Machine.{First}
+use Rattle.ch_sql_grammar.specs.Tokens.{marked}
 use Rattle.ch_filter.proofs.Rules.{atom_rule}
 use Rattle.ch_filter.proofs.Moving.{exits, along}
 use Rattle.ch_filter.proofs.descent.atom.Goals as goal

@@ -1,6 +1,6 @@
 use Rattle.std.proofs.Common.{◌≡◌, refl, true, arith}
-use Rattle.ch_grammar.specs.declared.tok.Mark.TheVariants as mark
-use Rattle.ch_grammar.specs.Tokens.{marked}
+use Rattle.ch_sql_grammar.specs.declared.tok.Mark.TheVariants as mark
+use Rattle.ch_sql_grammar.specs.Tokens.{marked}
 use Rattle.ch_filter.proofs.Rules.{low_rule, low_and_rule, high_rule}
 use Rattle.ch_filter.proofs.Trees.{plain_between}
 use Rattle.ch_filter.proofs.descent.between.Goals as goal

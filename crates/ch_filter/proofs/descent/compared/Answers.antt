@@ -1,5 +1,5 @@
 use Rattle.std.proofs.Common.{refl}
-use Rattle.ch_places.specs.Machine.{Second}
+use Rattle.ch_sql_places.specs.Machine.{Second}
 use Rattle.ch_filter.proofs.Rules.{compared_rule}
 use Rattle.ch_filter.proofs.Moving.{exits}
 use Rattle.ch_filter.proofs.Trees.{plain_compare}

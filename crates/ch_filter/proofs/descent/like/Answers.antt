@@ -1,5 +1,5 @@
 use Rattle.std.proofs.Common.{◌≡◌, refl, true, arith, sym, ◌∙◌}
-use Rattle.ch_places.specs.Machine.{is_prefix}
+use Rattle.ch_sql_places.specs.Machine.{is_prefix}
 use Rattle.ch_filter.proofs.Rules.{like_rule}
 use Rattle.ch_filter.proofs.Trees.{plain_like}
 use Rattle.ch_filter.proofs.descent.like.Goals as goal

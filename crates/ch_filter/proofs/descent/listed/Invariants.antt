@@ -1,7 +1,7 @@
 use Rattle.std.proofs.Common.{◌≡◌, ◌≤◌, ◌-◌, ◌+◌, length, []}
-use Rattle.ch_places.specs.Machine.{Around, Listed}
-use Rattle.ch_places.specs.Parsing.{parse_at}
-use Rattle.ch_grammar.specs.declared.query.ColumnRef.{ColumnRef}
+use Rattle.ch_sql_places.specs.Machine.{Around, Listed}
+use Rattle.ch_sql_places.specs.Parsing.{parse_at}
+use Rattle.ch_sql_grammar.specs.declared.query.ColumnRef.{ColumnRef}
 use Rattle.ch_filter.proofs.descent.listed.Given as goal
 
 abbrev pub invariant-loop-literals : goal.invariant-loop-literals

@@ -1,4 +1,4 @@
-use Rattle.ch_places.proofs.Refused.{why_refused}
+use Rattle.ch_sql_places.proofs.Refused.{why_refused}
 use Rattle.ch_refusals.proofs.Given.{given, one}
 use Rattle.ch_refusals.proofs.parsing.parse_refusals_are_exact.Goals as goal
 

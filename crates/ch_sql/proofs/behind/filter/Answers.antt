@@ -1,8 +1,8 @@
 use Rattle.std.proofs.Common.{◌≡◌, ◌∙◌, [], true, false, not, ap, refl, arith}
-use Rattle.ch_grammar.specs.declared.tok.Mark.TheVariants as mark
-use Rattle.ch_grammar.specs.Tokens.{marked}
-use Rattle.ch_grammar.specs.Tree.{plain_of}
-use Rattle.ch_places.specs.Machine.{Whole, is_semi}
+use Rattle.ch_sql_grammar.specs.declared.tok.Mark.TheVariants as mark
+use Rattle.ch_sql_grammar.specs.Tokens.{marked}
+use Rattle.ch_sql_grammar.specs.Tree.{plain_of}
+use Rattle.ch_sql_places.specs.Machine.{Whole, is_semi}
 use Rattle.ch_filter.proofs.Moving.{exits}
 use Rattle.ch_filter.proofs.Rules.{filter_rule}
 use Rattle.ch_sql.proofs.Stepping.{conj_rule}

@@ -1,7 +1,7 @@
 use Rattle.std.proofs.Common.{◌≡◌, ◌∙◌, Some, None, refl, sym, ap}
 use Rattle.std.specs.Prelude.{slice_get}
 use Rattle.std.proofs.lemmas.Option.{slice_get_read, slice_get_past}
-use Rattle.ch_grammar.specs.TailSteps as tails
+use Rattle.ch_sql_grammar.specs.TailSteps as tails
 use Rattle.ch_sql.proofs.Stepping.{tail_rule, tail_end_rule, after_tail, after_tails}
 use Rattle.ch_sql.proofs.behind.tail_from.Goals as goal
 

@@ -1,8 +1,8 @@
 use Rattle.std.proofs.Common.{◌≡◌, ◌-◌, length, Option}
-use Rattle.ch_grammar.specs.declared.head.Head.{Head}
-use Rattle.ch_grammar.specs.Tree.{Plain}
-use Rattle.ch_places.specs.Machine.{Tailing}
-use Rattle.ch_places.specs.Parsing.{parse_at}
+use Rattle.ch_sql_grammar.specs.declared.head.Head.{Head}
+use Rattle.ch_sql_grammar.specs.Tree.{Plain}
+use Rattle.ch_sql_places.specs.Machine.{Tailing}
+use Rattle.ch_sql_places.specs.Parsing.{parse_at}
 use Rattle.ch_sql.proofs.behind.tail_from.Given as goal
 
 abbrev pub invariant-loop-token : goal.invariant-loop-token

@@ -1,9 +1,9 @@
 use Rattle.std.proofs.Common.{◌≡◌, ◌∙◌, Some, None, refl, sym, ap, subst}
 use Rattle.std.specs.Prelude.{slice_get}
 use Rattle.std.proofs.lemmas.Option.{slice_get_read, slice_get_past}
-use Rattle.ch_grammar.specs.declared.head.HeadStep.{HeadStep}
-use Rattle.ch_grammar.specs.declared.head.HeadStep.TheVariants as headstep
-use Rattle.ch_grammar.specs.HeadSteps as heads
+use Rattle.ch_sql_grammar.specs.declared.head.HeadStep.{HeadStep}
+use Rattle.ch_sql_grammar.specs.declared.head.HeadStep.TheVariants as headstep
+use Rattle.ch_sql_grammar.specs.HeadSteps as heads
 use Rattle.ch_sql.proofs.Inner.{StaysInner, stays}
 use Rattle.ch_sql.proofs.Stepping.{head_rule, head_end_rule, after_step, after_end}
 use Rattle.ch_sql.proofs.heads.head_from.Goals as goal

@@ -1,6 +1,6 @@
 use Rattle.std.proofs.Common.{◌≡◌, ◌-◌, length, true}
-use Rattle.ch_places.specs.Machine.{Heading}
-use Rattle.ch_places.specs.Parsing.{parse_at}
+use Rattle.ch_sql_places.specs.Machine.{Heading}
+use Rattle.ch_sql_places.specs.Parsing.{parse_at}
 use Rattle.ch_sql.specs.Behind.{is_inner}
 use Rattle.ch_sql.proofs.heads.head_from.Given as goal
 

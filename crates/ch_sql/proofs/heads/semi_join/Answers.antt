@@ -1,9 +1,9 @@
 use Rattle.std.proofs.Common.{◌≡◌, ◌∙◌, ◌+◌, ℕ, Option, true, false, sym, ap, subst, arith}
-use Rattle.ch_grammar.specs.declared.tok.Mark.TheVariants as mark
-use Rattle.ch_grammar.specs.Tokens.{marked}
-use Rattle.ch_grammar.specs.declared.query.ColumnRef.{ColumnRef}
-use Rattle.ch_places.specs.Machine.{Heading, may_be_outer}
-use Rattle.ch_places.specs.Parsing.{parse_at}
+use Rattle.ch_sql_grammar.specs.declared.tok.Mark.TheVariants as mark
+use Rattle.ch_sql_grammar.specs.Tokens.{marked}
+use Rattle.ch_sql_grammar.specs.declared.query.ColumnRef.{ColumnRef}
+use Rattle.ch_sql_places.specs.Machine.{Heading, may_be_outer}
+use Rattle.ch_sql_places.specs.Parsing.{parse_at}
 use Rattle.ch_sql.specs.Behind.{LeadsTo, is_inner}
 use Rattle.ch_sql.proofs.Stepping.{behind_else, behind_inner, behind_outer, behind_where, semi_behind}
 use Rattle.ch_sql.proofs.heads.semi_join.Goals as goal

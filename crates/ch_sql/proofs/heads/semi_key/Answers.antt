@@ -1,6 +1,6 @@
 use Rattle.std.proofs.Common.{◌≡◌, ◌∙◌, ◌+◌, Some, true, false, sym, ap, arith}
-use Rattle.ch_grammar.specs.declared.tok.Mark.TheVariants as mark
-use Rattle.ch_grammar.specs.Tokens.{marked}
+use Rattle.ch_sql_grammar.specs.declared.tok.Mark.TheVariants as mark
+use Rattle.ch_sql_grammar.specs.Tokens.{marked}
 use Rattle.ch_sql.specs.Behind.{opens_select}
 use Rattle.ch_sql.proofs.Leading.{lead_unnamed, bare_opens, bare_closed, dot_unnamed, dotted_opens, dotted_closed}
 use Rattle.ch_sql.proofs.heads.semi_key.Goals as goal

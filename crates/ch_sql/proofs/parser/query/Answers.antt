@@ -1,8 +1,8 @@
 use Rattle.std.proofs.Common.{◌∙◌, option_map, sym, ap}
-use Rattle.ch_grammar.specs.declared.tail.TailPlace.TheVariants as place
-use Rattle.ch_grammar.specs.Tree.{plain_of}
-use Rattle.ch_places.specs.Machine.{Tailing}
-use Rattle.ch_places.specs.Parsing.{parse_at}
+use Rattle.ch_sql_grammar.specs.declared.tail.TailPlace.TheVariants as place
+use Rattle.ch_sql_grammar.specs.Tree.{plain_of}
+use Rattle.ch_sql_places.specs.Machine.{Tailing}
+use Rattle.ch_sql_places.specs.Parsing.{parse_at}
 use Rattle.ch_filter.proofs.Moving.{exits}
 use Rattle.ch_sql.proofs.parser.query.Goals as goal
 

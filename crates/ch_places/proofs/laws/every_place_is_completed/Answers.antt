@@ -1,5 +1,0 @@
-use Rattle.ch_places.proofs.Complete.{completes}
-use Rattle.ch_places.proofs.laws.every_place_is_completed.Goals as goal
-
-pub returns : goal.returns
-returns c = completes

@@ -1,0 +1,152 @@
+use ch_cells::{Bytes, Listed};
+use ch_pred::{Cmp, Literal};
+
+/// A column as a query names it, with or without its table.
+#[derive(Debug)]
+pub struct ColumnRef {
+    pub table: Option<Bytes>,
+    pub name: Bytes,
+}
+
+impl Drop for ColumnRef {
+    fn drop(self) {
+        let ColumnRef { table: _, name: _ } = self;
+    }
+}
+
+/// What a column is compared with.
+#[derive(Debug, Drop)]
+pub enum Side {
+    Column(ColumnRef),
+    Value(Literal),
+}
+
+/// A predicate as a query writes it. No node stands for parentheses, and an `And` or an `Or` has
+/// two members or more.
+#[derive(Debug)]
+pub enum Pred {
+    Compare(ColumnRef, Cmp, Side),
+    /// Both ends are within.
+    Between(ColumnRef, Literal, Literal),
+    Within(ColumnRef, Vec<Literal>),
+    /// The prefix, without its percent sign.
+    Like(ColumnRef, Bytes),
+    And(Vec<Pred>),
+    Or(Vec<Pred>),
+    Not(Box<Pred>),
+}
+
+impl Drop for Pred {
+    fn drop(self) {
+        match self {
+            Pred::Compare(_, _, _) => {}
+            Pred::Between(_, _, _) => {}
+            Pred::Within(_, _) => {}
+            Pred::Like(_, _) => {}
+            Pred::And(_) | Pred::Or(_) => {}
+            Pred::Not(_) => {}
+        }
+    }
+}
+
+/// What a query selects. A `Star` is all columns of the source.
+#[derive(Debug, Drop)]
+pub enum Item {
+    Star,
+    Column(ColumnRef),
+    Max(ColumnRef),
+    Min(ColumnRef),
+}
+
+/// Where a query's rows come from.
+#[derive(Debug, Drop)]
+pub enum Source {
+    One(Bytes),
+    Join {
+        left: Bytes,
+        right: Bytes,
+        first_on: ColumnRef,
+        second_on: ColumnRef,
+    },
+    /// The rows of the outer table whose key stands in the inner key's column.
+    Semi {
+        outer: Bytes,
+        inner: Bytes,
+        key: ColumnRef,
+        inner_key: ColumnRef,
+    },
+}
+
+#[derive(Debug, Drop)]
+pub enum Agg {
+    Sum(ColumnRef),
+    Count,
+}
+
+#[derive(Debug, Drop)]
+pub struct Having {
+    pub agg: Agg,
+    pub above: i64,
+}
+
+/// A dimension of a skyline: whether more is better.
+#[derive(Debug, Drop)]
+pub struct SkyDim {
+    pub col: ColumnRef,
+    pub max: bool,
+}
+
+/// What stands behind the source and the filter.
+#[derive(Debug)]
+pub enum Tail {
+    Nothing,
+    Top {
+        by: ColumnRef,
+        descending: bool,
+        limit: i64,
+    },
+    Group {
+        keys: Listed<ColumnRef>,
+        having: Option<Having>,
+    },
+    Skyline {
+        dims: Listed<SkyDim>,
+    },
+}
+
+impl Drop for Tail {
+    fn drop(self) {
+        match self {
+            Tail::Nothing => {}
+            Tail::Top {
+                by: _,
+                descending: _,
+                limit: _,
+            } => {}
+            Tail::Group { keys: _, having: _ } => {}
+            Tail::Skyline { dims: _ } => {}
+        }
+    }
+}
+
+/// A query as it is written, before its names are bound.
+#[derive(Debug)]
+pub struct Query {
+    pub distinct: bool,
+    pub items: Listed<Item>,
+    pub source: Source,
+    pub filter: Option<Pred>,
+    pub tail: Tail,
+}
+
+impl Drop for Query {
+    fn drop(self) {
+        let Query {
+            distinct: _,
+            items: _,
+            source: _,
+            filter: _,
+            tail: _,
+        } = self;
+    }
+}

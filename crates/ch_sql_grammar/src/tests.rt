@@ -1,0 +1,62 @@
+use crate::keyword::keyword_in;
+use crate::tok::{Mark, Tok, is_mark, name_of, toks_of};
+use ch_cells::Bytes;
+use ch_sql_tokens::{Symbol, Token};
+use std::test::Fail;
+
+#[test]
+fn knows_each_keyword_in_any_case(rt: HostRuntime) {
+    let table = [
+        ("SELECT", "sELECT", Mark::Select),
+        ("DISTINCT", "distinct", Mark::Distinct),
+        ("FROM", "From", Mark::From),
+        ("JOIN", "join", Mark::Join),
+        ("ON", "oN", Mark::On),
+        ("WHERE", "where", Mark::Where),
+        ("ORDER", "Order", Mark::Order),
+        ("BY", "by", Mark::By),
+        ("ASC", "asc", Mark::Asc),
+        ("DESC", "DeSc", Mark::Desc),
+        ("LIMIT", "limit", Mark::Limit),
+        ("GROUP", "group", Mark::Group),
+        ("HAVING", "having", Mark::Having),
+        ("SUM", "sum", Mark::Sum),
+        ("COUNT", "count", Mark::Count),
+        ("SKYLINE", "skyline", Mark::Skyline),
+        ("OF", "of", Mark::Of),
+        ("MAX", "max", Mark::Max),
+        ("MIN", "min", Mark::Min),
+        ("AND", "and", Mark::And),
+        ("OR", "or", Mark::Or),
+        ("NOT", "not", Mark::Not),
+        ("BETWEEN", "between", Mark::Between),
+        ("IN", "in", Mark::In),
+        ("LIKE", "like", Mark::Like),
+    ];
+    for (upper, other, mark) in table {
+        assert!(rt; keyword_in(upper.as_bytes()) == Some(mark), "{upper}");
+        assert!(rt; keyword_in(other.as_bytes()) == Some(mark), "{other}");
+    }
+    for word in ["", "selects", "i", "_in", "l1ke"] {
+        assert!(rt; keyword_in(word.as_bytes()).is_none(), "{word}");
+    }
+}
+
+#[test]
+fn quotes_make_a_name_of_a_keyword(rt: HostRuntime) -> Result<(), Fail> {
+    let mut tokens = Vec::new(rt.alloc());
+    tokens.push(Token::Word(Bytes::from_slice(rt.alloc(), b"Select")?))?;
+    tokens.push(Token::Quoted(Bytes::from_slice(rt.alloc(), b"Select")?))?;
+    tokens.push(Token::Symbol(Symbol::Ne))?;
+    let toks = toks_of(rt.alloc(), tokens.as_slice())?;
+    assert_eq!(rt; toks.len(), 3);
+    assert!(rt; is_mark(Mark::Select, &toks[0]));
+    assert!(rt; !is_mark(Mark::Select, &toks[1]));
+    assert!(rt; is_mark(Mark::Ne, &toks[2]));
+    match name_of(&toks[1]) {
+        Some(name) => assert!(rt; name.as_slice() == b"Select".as_slice()),
+        None => assert!(rt; false, "no name"),
+    }
+    assert!(rt; matches!(toks[0], Tok::Mark(Mark::Select)));
+    Ok(())
+}
