@@ -1,12 +1,7 @@
 -- Membership in lists.
 use Rattle.std.proofs.Common.{◌≡◌, ℕ, zero, suc, ◌+◌, ◌<◌, ◌≤◌, Bool, true, false, cond, not, List, [], ◌∷◌, ◌++◌, length, filter, remove, take, drop, slice_get, Option, Some, None, refl, ap, sym, ◌∙◌, arith, inl, inr, ◌⊎◌}
 use Rattle.ch_protocol.specs.Sets.{numbers_from}
-use Rattle.ch_protocol.specs.Sets.{In, Each}
-
-pub In-left : {X : Type 0} (x : X) (xs ys : List X) → In x xs → In x (xs ++ ys)
-In-left x [] ys h = absurd h
-In-left x (y ∷ xs) ys (inl e) = inl e
-In-left x (y ∷ xs) ys (inr h) = inr (In-left x xs ys h)
+use Rattle.ch_lists.specs.Members.{In, Each, AreDifferent}
 
 pub In-last : {X : Type 0} (x : X) (xs : List X) → In x (xs ++ x ∷ [])
 In-last x [] = inl refl
@@ -30,25 +25,6 @@ In-get x [] i e = absurd cc
 In-get x (y ∷ xs) zero e = inl (cc)
 In-get x (y ∷ xs) (suc i) e = inr (In-get x xs i e)
 
-pub In-filter : {X : Type 0} (p : X → Bool) (x : X) (xs : List X) → In x (filter p xs) → In x xs × (p x ≡ true)
-In-filter p x [] h = absurd h
-In-filter {X} p x (y ∷ xs) h = go (In-filter p x xs) (p y) refl h
-  where
-    go : (In x (filter p xs) → In x xs × (p x ≡ true)) → (b : Bool) → p y ≡ b → In x (cond b (y ∷ filter p xs) (filter p xs)) → In x (y ∷ xs) × (p x ≡ true)
-    go ih true e (inl q) = (inl q, ap p q ∙ e)
-    go ih true e (inr i) = let r = ih i in (inr r.0, r.1)
-    go ih false e i = let r = ih i in (inr r.0, r.1)
-
-pub In-filter_from : {X : Type 0} (p : X → Bool) (x : X) (xs : List X) → In x xs → p x ≡ true → In x (filter p xs)
-In-filter_from p x [] h t = absurd h
-In-filter_from {X} p x (y ∷ xs) h t = go (λ i. In-filter_from p x xs i t) (p y) refl h
-  where
-    go : (In x xs → In x (filter p xs)) → (b : Bool) → p y ≡ b → In x (y ∷ xs) → In x (cond b (y ∷ filter p xs) (filter p xs))
-    go ih true e (inl q) = inl q
-    go ih true e (inr i) = inr (ih i)
-    go ih false e (inl q) = absurd (cc (sym t ∙ ap p q ∙ e))
-    go ih false e (inr i) = ih i
-
 pub In-numbers : (k from count : ℕ) → In k (numbers_from from count) → (from ≤ k) × (k < from + count)
 In-numbers k from zero h = absurd h
 In-numbers k from (suc count) (inl e) = omega arith
@@ -64,3 +40,7 @@ In-numbers_from k from (suc count) le lt = elim (Rattle.std.proofs.lemmas.Bool.c
 -- each of a list with one more at its end
 pub Each-push : {X : Type 0} (P : X → Type 0) (xs : List X) (y : X) → Each P xs → P y → Each P (xs ++ y ∷ [])
 Each-push P xs y each here x h = elim (In-push x y xs h) [ inl i ↦ each x i | inr e ↦ Rattle.std.proofs.Common.subst P (sym e) here ]
+
+pub AreDifferent-numbers : (from count : ℕ) → AreDifferent (numbers_from from count)
+AreDifferent-numbers from zero = tt
+AreDifferent-numbers from (suc count) = ((λ h. omega (arith, In-numbers from (suc from) count h)), AreDifferent-numbers (suc from) count)

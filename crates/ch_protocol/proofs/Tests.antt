@@ -2,7 +2,8 @@
 use Rattle.std.proofs.Common.{◌≡◌, ℕ, zero, suc, ◌<◌, ◌≤◌, Bool, true, false, cond, ◌&&◌, ◌||◌, eqb, List, [], ◌∷◌, refl, ap, ◌∙◌, arith, inl, inr, eqb-true, eq-eqb}
 use Rattle.std.proofs.lemmas.Bool.{cases_Bool, cases_eq, and_parts, and_from, cond-true, cond-false, ne_eqb, false_from_ne_true}
 use Rattle.std.specs.List.{list_any}
-use Rattle.ch_protocol.specs.Sets.{In, least, all_below, set_at}
+use Rattle.ch_lists.specs.Members.{In}
+use Rattle.ch_protocol.specs.Sets.{least, all_below, set_at}
 use Rattle.ch_protocol.specs.Packets.{Name, same_name}
 
 pub least-below : (a : ℕ → Bool) (n k : ℕ) → k < least a n → a k ≡ true

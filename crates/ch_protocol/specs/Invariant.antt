@@ -1,6 +1,6 @@
 -- What holds in each state that a run reaches, one record for each topic. Each event keeps all of it together.
 use Rattle.std.specs.Prelude.{◌≡◌, ℕ, suc, ◌<◌, ◌≤◌, ◌==◌, min, Bool, true, ◌⊎◌, if◌then◌else◌, ◌&&◌, List, [], ◌∷◌, Option, Some, None}
-use Rattle.ch_protocol.specs.Sets.{In, Each, AreDifferent}
+use Rattle.ch_lists.specs.Members.{In, Each, AreDifferent}
 use Rattle.ch_protocol.specs.Packets.{Name, Packet, Ack, same_name}
 use Rattle.ch_protocol.specs.Packets.Origin.{Switch, Master}
 use Rattle.ch_protocol.specs.Machine.{Entry, Config, State, size, workers, passes, verdict}

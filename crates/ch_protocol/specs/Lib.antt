@@ -5,6 +5,5 @@ pub mod Receiver
 pub mod Machine
 pub mod Drain
 pub mod Outcome
-pub mod Cover
+pub mod Received
 pub mod Invariant
-pub mod Rows

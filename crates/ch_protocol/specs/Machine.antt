@@ -1,15 +1,11 @@
 -- The protocol as a pure machine: its state, its events, and what each event makes of a state.
 use Rattle.std.specs.Prelude.{◌≡◌, ℕ, suc, ◌+◌, ◌==◌, nat_lt, min, Bool, true, false, ◌&&◌, if◌then◌else◌, List, [], ◌∷◌, ◌++◌, length, map, filter, remove, slice_get, slice_index_or, sum_by, Option, Some, None}
 use Rattle.ch_protocol.specs.Sets.{all_below, set_at}
-use Rattle.ch_protocol.specs.Packets.{Part, Row, Name, Packet, Ack}
+use Rattle.ch_protocol.specs.Packets.{Part, Name, Packet, Ack}
 use Rattle.ch_protocol.specs.Packets.Origin.{Switch, Master}
 use Rattle.ch_protocol.specs.Sender.{least_open, may_send, open_at, acknowledge, is_current, cut_to_least, is_done, first_number, none_acked}
 use Rattle.ch_protocol.specs.Receiver.{collect}
-
--- A pruning policy: whether a row is pruned after the rows that were processed before it, the newest first, each with
--- its pass
-abbrev pub Policy : Type 0
-Policy = List (ℕ × Row) → ℕ × Row → Bool
+use Rattle.ch_cover.specs.Rows.{Policy, Row}
 
 -- What stays the same in a run: each worker's part, how far a worker may send beyond its least unacknowledged number,
 -- whether the kind of the query has two passes, and the policy

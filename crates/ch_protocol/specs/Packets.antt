@@ -11,12 +11,6 @@ pub record Part : Type 0 where
   pub side : ℕ
   pub tuples : List Tuple
 
--- a row as the switch sees it
-pub record Row : Type 0 where
-  pub side : ℕ
-  pub bit : Bool
-  pub words : List ℤ
-
 -- A packet of rows is named by its flow, which is a pass and a worker, and by its number there. The rows of a worker
 -- with n rows have the numbers 0 to n - 1, and its Fin, which ends the flow, has the number n
 pub record Name : Type 0 where

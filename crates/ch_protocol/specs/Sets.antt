@@ -1,5 +1,5 @@
 -- Sets of numbers as tests, functions that differ at one place, and membership in a list.
-use Rattle.std.specs.Prelude.{◌≡◌, ℕ, zero, suc, ◌==◌, Bool, true, ◌&&◌, if◌then◌else◌, List, [], ◌∷◌, ◌⊎◌}
+use Rattle.std.specs.Prelude.{ℕ, zero, suc, ◌==◌, Bool, true, ◌&&◌, if◌then◌else◌, List, [], ◌∷◌}
 
 -- the least number from 0 on, below the bound, that isn't in the set; else the bound
 unfoldable pub least : (ℕ → Bool) → ℕ → ℕ
@@ -19,17 +19,3 @@ numbers_from first (suc count) = first ∷ numbers_from (suc first) count
 -- the function with another value at one place
 abbrev pub set_at : {X : Type 0} → ℕ → X → (ℕ → X) → ℕ → X
 set_at k x f i = if i == k then x else f i
-
--- x stands in the list
-abbrev pub In : {X : Type 0} → X → List X → Type 0
-In x [] = ⊥
-In x (y ∷ ys) = (x ≡ y) ⊎ In x ys
-
--- the fact holds of each member
-abbrev pub Each : {X : Type 0} → (X → Type 0) → List X → Type 0
-Each {X} P xs = (x : X) → In x xs → P x
-
--- no member stands there twice
-abbrev pub AreDifferent : {X : Type 0} → List X → Type 0
-AreDifferent [] = Unit {0}
-AreDifferent (x ∷ xs) = (In x xs → ⊥) × AreDifferent xs

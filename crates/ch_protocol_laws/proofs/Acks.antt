@@ -2,7 +2,8 @@
 use Rattle.std.proofs.Common.{◌≡◌, ℕ, suc, ◌<◌, ◌≤◌, min, Bool, true, false, cond, ◌&&◌, eqb, nat_lt, List, [], ◌∷◌, ◌++◌, Option, Some, None, refl, ap, sym, ◌∙◌, subst, arith, inl, inr, ◌⊎◌, eqb-true, ltb-true, lt-ltb}
 use Rattle.std.specs.List.{list_any}
 use Rattle.std.proofs.lemmas.Bool.{cases_Bool, cases_eq, cases_lt, cases_cond, and_parts, and_from, false_from_ne_true, cond-true}
-use Rattle.ch_protocol.specs.Sets.{set_at, In, Each, AreDifferent}
+use Rattle.ch_lists.specs.Members.{In, Each, AreDifferent}
+use Rattle.ch_protocol.specs.Sets.{set_at}
 use Rattle.ch_protocol.specs.Packets.{Name, Packet, Ack, same_name}
 use Rattle.ch_protocol.specs.Packets.Origin.{Master}
 use Rattle.ch_protocol.specs.Sender.{least_open}

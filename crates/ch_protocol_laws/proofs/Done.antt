@@ -1,14 +1,13 @@
 -- What is settled at the last confirmation.
 use Rattle.std.proofs.Common.{◌≡◌, ℕ, suc, ◌<◌, Bool, true, ◌&&◌, eqb, nat_lt, filter, IsPermutation, sym, subst, arith, eqb-true, eq-eqb, ltb-true, lt-ltb}
 use Rattle.std.proofs.lemmas.Bool.{and_parts, and_from}
-use Rattle.ch_protocol.specs.Sets.{In}
+use Rattle.ch_lists.specs.Members.{In}
+use Rattle.ch_lists.proofs.Members.{In-filter, In-filter_from, same_members, AreDifferent-filter}
 use Rattle.ch_protocol.specs.Packets.{Name}
 use Rattle.ch_protocol.specs.Receiver.{has}
 use Rattle.ch_protocol.specs.Machine.{Config, State, size, workers, confirmed}
 use Rattle.ch_protocol.specs.Invariant.{IsSettled, IsSound}
-use Rattle.ch_protocol.proofs.Lists.{In-filter, In-filter_from}
 use Rattle.ch_protocol.proofs.Tests.{all_below-at, any_same-true, any_same-from}
-use Rattle.ch_protocol_laws.proofs.Sets.{same_members, AreDifferent-filter}
 use Rattle.ch_protocol_laws.proofs.Names.{names_of, names-In, names-from, names-different}
 
 abbrev pub is_row : Config → ℕ → Name → Bool

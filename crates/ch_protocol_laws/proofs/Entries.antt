@@ -1,14 +1,14 @@
 -- What lawful entries say of each epoch.
 use Rattle.std.proofs.Common.{◌≡◌, ℕ, ◌<◌, Bool, true, false, cond, ◌&&◌, eqb, nat_lt, List, [], ◌∷◌, map, filter, Some, refl, ap, sym, ◌∙◌, subst, arith, inl, inr, eqb-true}
 use Rattle.std.proofs.lemmas.Bool.{cases_Bool, cases_eq, cond-true, cond-false}
-use Rattle.ch_protocol.specs.Sets.{In, Each, AreDifferent}
-use Rattle.ch_protocol.specs.Packets.{Row, Name, same_name}
+use Rattle.ch_lists.specs.Members.{In, Each, AreDifferent}
+use Rattle.ch_lists.proofs.Members.{In-filter, In-map}
+use Rattle.ch_cover.specs.Rows.{Row}
+use Rattle.ch_protocol.specs.Packets.{Name, same_name}
 use Rattle.ch_protocol.specs.Machine.{Entry, Config, row_at, entries_of, seen}
-use Rattle.ch_protocol.specs.Cover.{DoKeptStay}
+use Rattle.ch_cover.specs.Cover.{DoKeptStay}
 use Rattle.ch_protocol.specs.Invariant.{AreLawful, MayFollow, mark_of}
-use Rattle.ch_protocol.proofs.Lists.{In-filter}
 use Rattle.ch_protocol.proofs.Tests.{same_name-true, same_name-from}
-use Rattle.ch_protocol_laws.proofs.Sets.{In-map}
 
 pub lawful_at : (c : Config) (ys : List Entry) (y : Entry) → AreLawful c ys → In y ys → (before : List Entry) × MayFollow c before y × ((z : Entry) → In z before → In z ys)
 lawful_at c [] y l h = absurd h

@@ -1,7 +1,7 @@
 -- What became of each row of the last pass, once the run has stopped.
 use Rattle.std.proofs.Common.{◌≡◌, ℕ, true, eqb, refl, ap, sym, ◌∙◌, subst, arith, inl, inr, eqb-true}
 use Rattle.std.proofs.lemmas.Bool.{and_parts, cond-true}
-use Rattle.ch_protocol.specs.Sets.{In}
+use Rattle.ch_lists.specs.Members.{In}
 use Rattle.ch_protocol.specs.Packets.{Name}
 use Rattle.ch_protocol.specs.Machine.{Entry, Config, State, passes, confirmed, stopped}
 use Rattle.ch_protocol.specs.Invariant.{IsSound}

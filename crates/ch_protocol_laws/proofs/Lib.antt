@@ -2,7 +2,6 @@ pub mod Links
 pub mod Acks
 pub mod Switch
 pub mod Sound
-pub mod Sets
 pub mod Names
 pub mod Entries
 pub mod Done
@@ -12,12 +11,8 @@ pub mod Ways
 pub mod Rounds
 pub mod Drained
 pub mod Fuel
-pub mod Memoryless
 pub mod Reached
 pub mod Numbers
 pub mod Facts
 pub mod LastPass
-pub mod Greatest
-pub mod FirstOfKey
 pub mod OutcomeLaws
-pub mod OtherRows

@@ -1,7 +1,8 @@
 -- The invariant at the start, and as the links and the workers' numbers change.
 use Rattle.std.proofs.Common.{◌≡◌, ℕ, suc, ◌<◌, ◌≤◌, true, List, remove, refl, ap, sym, ◌∙◌, arith, inl, inr}
 use Rattle.std.proofs.lemmas.Bool.{cases_eq}
-use Rattle.ch_protocol.specs.Sets.{set_at, Each}
+use Rattle.ch_lists.specs.Members.{Each}
+use Rattle.ch_protocol.specs.Sets.{set_at}
 use Rattle.ch_protocol.specs.Packets.{Name, Packet, Ack}
 use Rattle.ch_protocol.specs.Machine.{Config, State, Counts, size, workers, start, go_up, go_down}
 use Rattle.ch_protocol.specs.Invariant.{IsKnown, IsOnUp, IsOnDown, IsOnBack, IsSound}

@@ -1,12 +1,14 @@
 -- The names of all rows, and the rows that they name.
-use Rattle.std.proofs.Common.{◌≡◌, ℕ, zero, suc, ◌<◌, List, [], ◌∷◌, ◌++◌, map, flat_map, length, slice_index_or, refl, ap, sym, ◌∙◌, subst, arith, inl, inr}
+use Rattle.std.proofs.Common.{◌≡◌, ℕ, zero, suc, ◌<◌, Bool, true, List, [], ◌∷◌, ◌++◌, map, flat_map, length, slice_index_or, refl, ap, sym, ◌∙◌, subst, arith, inl, inr}
 use mathlib.Core.Path.{fun_ext}
-use Rattle.ch_protocol.specs.Sets.{numbers_from, In, AreDifferent}
-use Rattle.ch_protocol.specs.Packets.{Row, Name}
+use Rattle.ch_lists.specs.Members.{In, AreDifferent}
+use Rattle.ch_lists.proofs.Members.{In-left, In-right, In-append, In-map, In-map_from, AreDifferent-append, AreDifferent-map}
+use Rattle.ch_protocol.specs.Sets.{numbers_from}
+use Rattle.ch_protocol.specs.Packets.{Name}
 use Rattle.ch_protocol.specs.Machine.{no_row, Config, rows_of, row_at, size, workers, tables}
-use Rattle.ch_protocol.specs.Cover.{all_rows}
-use Rattle.ch_protocol.proofs.Lists.{In-left, In-numbers, In-numbers_from}
-use Rattle.ch_protocol_laws.proofs.Sets.{In-right, In-append, In-map, In-map_from, AreDifferent-append, AreDifferent-map, AreDifferent-numbers}
+use Rattle.ch_cover.specs.Rows.{AreRows, Row}
+use Rattle.ch_protocol.specs.Received.{all_rows}
+use Rattle.ch_protocol.proofs.Lists.{In-numbers, In-numbers_from, AreDifferent-numbers}
 
 abbrev pub name : ℕ → ℕ → ℕ → Name
 name p w k = record { pass = p; worker = w; number = k }
@@ -90,3 +92,10 @@ names-rows c p =
     fun_ext (λ w. map-map (name p w) (row_at c) (numbers_from 0 (size c w)) ∙ map-places (rows_of c w) no_row) in
     map-flat_map (λ w. map (name p w) (numbers_from 0 (size c w))) (row_at c) (numbers_from 0 (workers c))
     ∙ (ap (λ (f : ℕ → List Row). flat_map f (numbers_from 0 (workers c))) each ∙ flat_map-places (tables c))
+
+-- each row that a name of a pass names is a row of the configuration
+pub named_rows : (c : Config) (is_row : Row → Bool) (p : ℕ) → AreRows is_row (all_rows c) → (xs : List Name) → ((x : Name) → In x xs → In x (names_of c p)) → AreRows is_row (map (row_at c) xs)
+named_rows c is_row p are xs within r h =
+    let q = In-map (row_at c) r xs h in
+    subst (λ (z : Row). is_row z ≡ true) (sym q.2)
+    (are (row_at c q.0) (subst (λ (zs : List Row). In (row_at c q.0) zs) (names-rows c p) (In-map_from (row_at c) q.0 (names_of c p) (within q.0 q.1))))

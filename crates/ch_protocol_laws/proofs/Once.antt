@@ -1,18 +1,18 @@
 -- The cover over the epochs of a kind with one pass.
 use Rattle.std.proofs.Common.{◌≡◌, ℕ, zero, suc, ◌≤◌, Bool, true, false, cond, not, ◌&&◌, ◌||◌, eqb, List, [], ◌∷◌, ◌++◌, map, filter, IsPermutation, refl, ap, sym, ◌∙◌, subst, arith, inl, inr, eqb-true, eq-eqb}
 use Rattle.std.proofs.lemmas.Bool.{cases_Bool, cases_eq, and_parts, and_from, or_cases, or_left, or_right, cond-false}
-use Rattle.std.proofs.lemmas.List.Sorted.{IsPermutation-map}
-use Rattle.ch_protocol.specs.Sets.{In, Each, AreDifferent}
-use Rattle.ch_protocol.specs.Packets.{Row, Name}
+use Rattle.std.proofs.lemmas.List.Sorted.{IsPermutation-map, IsPermutation-sym}
+use Rattle.ch_lists.specs.Members.{In, Each, AreDifferent}
+use Rattle.ch_lists.proofs.Members.{In-filter, In-filter_from, same_members, AreDifferent-filter, AreDifferent-append, In-append, In-right, In-map, In-map_from, In-left}
+use Rattle.ch_protocol.specs.Packets.{Name}
 use Rattle.ch_protocol.specs.Receiver.{has}
 use Rattle.ch_protocol.specs.Machine.{IsReached, Entry, Config, State, passes, row_at, entries_of, confirmed, stopped}
-use Rattle.ch_protocol.specs.Cover.{CoversOnce, all_rows, rows_received}
+use Rattle.ch_cover.specs.Rows.{AreRows, Row}
+use Rattle.ch_cover.specs.Cover.{CoversOnce}
+use Rattle.ch_protocol.specs.Received.{all_rows, rows_received}
 use Rattle.ch_protocol.specs.Invariant.{IsSettled, IsSound}
-use Rattle.ch_protocol.proofs.Lists.{In-filter, In-filter_from}
 use Rattle.ch_protocol.proofs.Tests.{any_same-true, any_same-from}
-use Rattle.ch_protocol_laws.proofs.Sets.{same_members, AreDifferent-filter, AreDifferent-append, In-append, In-right, In-map, In-map_from}
-use Rattle.ch_protocol.proofs.Lists.{In-left}
-use Rattle.ch_protocol_laws.proofs.Names.{names_of, names-In, names-from, names-different, names-rows, map-append}
+use Rattle.ch_protocol_laws.proofs.Names.{names_of, names-In, names-from, names-different, names-rows, named_rows, map-append}
 use Rattle.ch_protocol_laws.proofs.Entries.{lawful_at, mark_in, processed_later, epoch_different, marked, kept_stay, marked-rows, marked-stays}
 use Rattle.ch_protocol_laws.proofs.Done.{all_settled, received_rows}
 use Rattle.ch_protocol_laws.proofs.Reached.{reached_sound}
@@ -47,7 +47,7 @@ split_off p q xs ps stay dx ds within to from out back = same_members (filter q 
       | inr j ↦ let r = out x j in In-filter_from q x xs (within x r.0) r.1
     ])
 
-module _ {A : Type 0} (c : Config) (answer : List Row → A) (law : CoversOnce c.prunes answer) (one : c.two_passes ≡ false) (s : State) (i : IsSound c s)
+module _ {A : Type 0} (c : Config) (is_row : Row → Bool) (answer : List Row → A) (law : CoversOnce is_row c.prunes answer) (are : AreRows is_row (all_rows c)) (one : c.two_passes ≡ false) (s : State) (i : IsSound c s)
     (all : (x : Name) → In x (names_of c 1) → IsSettled s.received s.processed x) where
   -- the answer over the rows that a test takes
   abbrev over : (Name → Bool) → A
@@ -62,6 +62,10 @@ module _ {A : Type 0} (c : Config) (answer : List Row → A) (law : CoversOnce c
     | inl j ↦ got x j
     | inr m ↦ let r = mark_in s.processed x true m in ap p (sym r.2) ∙ late r.0 r.1 (omega arith)
   ]))
+
+  -- the rows that a test takes are rows of the configuration
+  taken : (p : Name → Bool) → AreRows is_row (map (row_at c) (filter p (names_of c 1)))
+  taken p = named_rows c is_row 1 are (filter p (names_of c 1)) (λ x h. (In-filter p x (names_of c 1) h).0)
 
   -- each entry is of the one pass, and a row
   entry_name : (y : Entry) → In y s.processed → In y.name (names_of c 1)
@@ -114,10 +118,10 @@ module _ {A : Type 0} (c : Config) (answer : List Row → A) (law : CoversOnce c
 
     claim_suc : over p ≡ answer (map (row_at c) (names_of c 1))
     claim_suc =
-        law.order _ _ (IsPermutation-map (row_at c) _ _ some) ∙ (ap answer (map-append (row_at c) rest (filter p ps) ∙ ap (λ xs. map (row_at c) rest ++ xs) (sym (marked-stays c p hs)))
-        ∙ (law.cover (map (row_at c) rest) (marked c p hs) (kept_stay c p j s.processed one i.lawful (λ y h. (names-In c 1 y.name (entry_name y h)).0) kept)
+        law.order _ _ (taken p) (IsPermutation-map (row_at c) _ _ some) ∙ (ap answer (map-append (row_at c) rest (filter p ps) ∙ ap (λ xs. map (row_at c) rest ++ xs) (sym (marked-stays c p hs)))
+        ∙ (law.cover (map (row_at c) rest) (marked c p hs) (taken (λ x. p x && not (has ps x))) (subst (λ (zs : List Row). AreRows is_row zs) (sym (marked-rows c p hs)) (named_rows c is_row 1 are ps within)) (kept_stay c p j s.processed one i.lawful (λ y h. (names-In c 1 y.name (entry_name y h)).0) kept)
         ∙ (ap answer (ap (λ xs. map (row_at c) rest ++ xs) (marked-rows c p hs) ∙ sym (map-append (row_at c) rest ps))
-        ∙ (sym (law.order _ _ (IsPermutation-map (row_at c) _ _ most))
+        ∙ (sym (law.order _ _ (taken wider) (IsPermutation-map (row_at c) _ _ most))
         ∙ before wider (λ x h. or_left (p x) (has ps x) (got x h)) wide))))
 
   claim : (j : ℕ) → Claim j
@@ -126,17 +130,17 @@ module _ {A : Type 0} (c : Config) (answer : List Row → A) (law : CoversOnce c
 
   pub once_covers : answer (rows_received c 1 s.received) ≡ answer (all_rows c)
   once_covers =
-      law.order _ _ (IsPermutation-map (row_at c) _ _ (received_rows c s i 1))
+      sym (law.order _ _ (taken (has s.received)) (IsPermutation-sym _ _ (IsPermutation-map (row_at c) _ _ (received_rows c s i 1))))
       ∙ (claim (suc s.epoch) (has s.received) (λ x h. any_same-from x s.received h) (λ y h le. absurd (omega (arith, (i.entries y h).past)))
       ∙ ap answer (names-rows c 1))
 
 -- where the run has stopped, the answer over the received rows is that over all rows
-pub one_pass_answer : {A : Type 0} (c : Config) (answer : List Row → A) (s : State) → c.two_passes ≡ false → CoversOnce c.prunes answer → IsReached c s → stopped c s ≡ true
+pub one_pass_answer : {A : Type 0} (c : Config) (is_row : Row → Bool) (answer : List Row → A) (s : State) → c.two_passes ≡ false → CoversOnce is_row c.prunes answer → AreRows is_row (all_rows c) → IsReached c s → stopped c s ≡ true
     → answer (rows_received c (passes c) s.received) ≡ answer (all_rows c)
-one_pass_answer c answer s one law reached stop =
+one_pass_answer c is_row answer s one law are reached stop =
     let i = reached_sound c s reached in
     let t = and_parts (eqb s.pass (passes c)) (confirmed c s) stop in
     let e : passes c ≡ 1 = cond-false {A = ℕ} c.two_passes 2 1 one in
     let p : s.pass ≡ 1 = eqb-true s.pass (passes c) t.0 ∙ e in
     ap (λ n. answer (rows_received c n s.received)) e
-    ∙ once_covers c answer law one s i (λ x h. all_settled c s i t.1 x (subst (λ (n : ℕ). In x (names_of c n)) (sym p) h))
+    ∙ once_covers c is_row answer law are one s i (λ x h. all_settled c s i t.1 x (subst (λ (n : ℕ). In x (names_of c n)) (sym p) h))

@@ -1,17 +1,18 @@
 -- What a schedule comes to.
 use Rattle.std.proofs.Common.{◌≡◌, ◌≢◌, ◌<◌, ◌≤◌, Bool, true, false, not, eqb, eq-eqb, List, [], filter, refl, ap, subst, arith}
 use Rattle.std.proofs.lemmas.Bool.{cond-true, and_from, true_from_ne_false}
-use Rattle.ch_protocol.specs.Sets.{In, numbers_from}
+use Rattle.ch_lists.specs.Members.{In}
+use Rattle.ch_lists.proofs.Members.{In-filter_from, In-map_from}
+use Rattle.ch_protocol.specs.Sets.{numbers_from}
 use Rattle.ch_protocol.specs.Sender.{is_done}
 use Rattle.ch_protocol.specs.Machine.{Config, State, Event, size, workers, passes, confirmed, stopped, run, start, IsReached}
 use Rattle.ch_protocol.specs.Drain.{drain}
 use Rattle.ch_protocol.specs.Outcome.{OpenFlow, outcome, report, open_flow, after_schedule}
 use Rattle.ch_protocol.specs.Outcome.Outcome.{Done, Open}
-use Rattle.ch_protocol.proofs.Lists.{In-filter_from, In-numbers_from}
+use Rattle.ch_protocol.proofs.Lists.{In-numbers_from}
 use Rattle.ch_protocol.proofs.Tests.{either_way, all_below-from}
 use Rattle.ch_protocol_laws.proofs.Reached.{reached_drain, reached_ready}
 use Rattle.ch_protocol_laws.proofs.Drained.{drains_after}
-use Rattle.ch_protocol_laws.proofs.Sets.{In-map_from}
 
 pub reached_schedule : (c : Config) (events : List Event) (drains : Bool) → IsReached c (after_schedule c events drains)
 reached_schedule c events drains = either_way (IsReached c) drains _ _ (λ t. reached_drain c (run c events (start c)) (events, refl)) (λ f. (events, refl))

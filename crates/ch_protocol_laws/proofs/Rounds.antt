@@ -1,14 +1,16 @@
 -- Each round acknowledges one more number of each worker, so the rounds confirm each pass.
 use Rattle.std.proofs.Common.{◌≡◌, ℕ, zero, suc, ◌+◌, ◌-◌, ◌<◌, ◌≤◌, Bool, true, false, not, ◌&&◌, eqb, nat_lt, List, [], ◌∷◌, ◌++◌, length, map, sum, filter, remove, slice_get, Option, Some, None, refl, ap, sym, ◌∙◌, subst, arith, inl, inr, ◌⊎◌, eq-eqb, lt-ltb}
 use Rattle.std.proofs.lemmas.Bool.{cases_Bool, cases_eq, cases_lt, and_from, or_left, or_right, cond-true}
-use Rattle.ch_protocol.specs.Sets.{all_below, numbers_from, In}
+use Rattle.ch_lists.specs.Members.{In}
+use Rattle.ch_lists.proofs.Members.{In-left, In-filter_from}
+use Rattle.ch_protocol.specs.Sets.{all_below, numbers_from}
 use Rattle.ch_protocol.specs.Packets.{Name, Packet, Ack}
 use Rattle.ch_protocol.specs.Sender.{open_numbers, least_open, has_room, may_end}
 use Rattle.ch_protocol.specs.Machine.{Config, State, Event, size, workers, go_up, send_next, send, resend, resend_this, meet, expect_next, verdict, process, learn, meet_at, receive_at, learn_at, step, run, can_send}
 use Rattle.ch_protocol.specs.Machine.How.{Take}
 use Rattle.ch_protocol.specs.Machine.Event.{Send, Resend, Up, Down, Back}
 use Rattle.ch_protocol.specs.Drain.{IsPast, repeat, resends, sends, take_turn, turns, empty_up, empty_down, empty_back, round}
-use Rattle.ch_protocol.proofs.Lists.{In-left, In-last, In-filter_from, In-numbers_from}
+use Rattle.ch_protocol.proofs.Lists.{In-last, In-numbers_from}
 use Rattle.ch_protocol.proofs.Tests.{either_way, all_below-from, least-at}
 use Rattle.ch_protocol_laws.proofs.Ways.{grows_up, grows_send, grows_resend, is_at, IsOnWay, IsTracked, IsReady, tracked_grows, tracked_counts, at_least, step_keeps, step_ready, up_pass, up_tracked, down_pass, down_tracked, back_pass, back_tracked}
 use Rattle.ch_protocol_laws.proofs.Ways.IsOnWay.{Acked, OnUp, OnDown, OnBack}

@@ -8,7 +8,8 @@ use Rattle.ch_protocol.specs.Machine.{can_send, Config, State, How, Event, size,
 use Rattle.ch_protocol.specs.Machine.How.{Take, Keep, Lose}
 use Rattle.ch_protocol.specs.Machine.Event.{Send, Resend, Up, Down, Back, Inject, Restart}
 use Rattle.ch_protocol.specs.Invariant.{IsSound}
-use Rattle.ch_protocol.proofs.Lists.{In-get, In-filter, In-numbers}
+use Rattle.ch_lists.proofs.Members.{In-filter}
+use Rattle.ch_protocol.proofs.Lists.{In-get, In-numbers}
 use Rattle.ch_protocol.proofs.Tests.{set_at-same, either_way, all_below-at}
 use Rattle.ch_protocol_laws.proofs.Links.{start_sound, with_counts, without_up, without_down, without_back, go_up_sound, grow_sound}
 use Rattle.ch_protocol_laws.proofs.Acks.{receive_sound, learn_sound, begin_sound, restart_sound}

@@ -1,7 +1,8 @@
 -- The invariant as a packet meets the switch.
 use Rattle.std.proofs.Common.{◌≡◌, ℕ, zero, suc, ◌<◌, ◌≤◌, min, Bool, true, false, ◌&&◌, eqb, nat_lt, List, ◌∷◌, map, Option, Some, refl, ap, sym, ◌∙◌, subst, arith, inl, inr, ◌⊎◌, eqb-true, eq-eqb, ltb-true, ltb-false, lt-ltb}
 use Rattle.std.proofs.lemmas.Bool.{cases_Bool, cases_eq, cases_lt, and_parts, and_from, false_from_ne_true, cond-true, cond-false}
-use Rattle.ch_protocol.specs.Sets.{set_at, Each}
+use Rattle.ch_lists.specs.Members.{Each}
+use Rattle.ch_protocol.specs.Sets.{set_at}
 use Rattle.ch_protocol.specs.Packets.{Name, same_name}
 use Rattle.ch_protocol.specs.Packets.Origin.{Switch}
 use Rattle.ch_protocol.specs.Machine.{Entry, Config, State, size, expect_next, verdict, entries_of, seen, note_entry, process, accept, meet}

@@ -1,17 +1,18 @@
 -- The cover of a kind with two passes.
 use Rattle.std.proofs.Common.{◌≡◌, ℕ, ◌≤◌, Bool, true, false, cond, not, ◌&&◌, ◌||◌, eqb, nat_lt, List, [], ◌∷◌, ◌++◌, map, filter, IsPermutation, refl, ap, sym, ◌∙◌, subst, arith, inl, inr, ◌⊎◌, eqb-true, eq-eqb}
 use Rattle.std.proofs.lemmas.Bool.{cases_Bool, and_parts, and_from, and_left, and_right, or_cases, or_left, or_right, ne_eqb, le-ltb, eqb-false, cond-true, cond-false}
-use Rattle.std.proofs.lemmas.List.Sorted.{IsPermutation-map, IsPermutation-trans}
-use Rattle.ch_protocol.specs.Sets.{In, Each, AreDifferent}
-use Rattle.ch_protocol.specs.Packets.{Row, Name}
+use Rattle.std.proofs.lemmas.List.Sorted.{IsPermutation-map, IsPermutation-sym, IsPermutation-trans}
+use Rattle.ch_lists.specs.Members.{In, Each, AreDifferent}
+use Rattle.ch_lists.proofs.Members.{In-filter, In-filter_from, same_members, AreDifferent-filter, In-map, In-map_from}
+use Rattle.ch_protocol.specs.Packets.{Name}
 use Rattle.ch_protocol.specs.Receiver.{has}
 use Rattle.ch_protocol.specs.Machine.{IsReached, Entry, Config, State, passes, row_at, entries_of, seen, confirmed, stopped}
-use Rattle.ch_protocol.specs.Cover.{CoversTwice, DoKeptStayAfter, all_rows, rows_received}
+use Rattle.ch_cover.specs.Rows.{AreRows, Row}
+use Rattle.ch_cover.specs.Cover.{CoversTwice, DoKeptStayAfter}
+use Rattle.ch_protocol.specs.Received.{all_rows, rows_received}
 use Rattle.ch_protocol.specs.Invariant.{AreLawful, IsSettled, IsSound, IsWhole}
-use Rattle.ch_protocol.proofs.Lists.{In-filter, In-filter_from}
 use Rattle.ch_protocol.proofs.Tests.{any_same-true, any_same-from}
-use Rattle.ch_protocol_laws.proofs.Sets.{same_members, AreDifferent-filter, In-map, In-map_from}
-use Rattle.ch_protocol_laws.proofs.Names.{names_of, names-In, names-from, names-different, names-rows, map-append, map-map}
+use Rattle.ch_protocol_laws.proofs.Names.{names_of, names-In, names-from, names-different, names-rows, named_rows, map-append, map-map}
 use Rattle.ch_protocol_laws.proofs.Entries.{lawful_at, mark_in, processed_later, test_different, marked, marked-rows, marked-stays}
 use Rattle.ch_protocol_laws.proofs.Done.{all_settled, received_rows}
 use Rattle.ch_protocol_laws.proofs.Once.{filter_all, split_off}
@@ -98,7 +99,7 @@ kept_stay_after c stays first (x ∷ ys) l h whole kept =
     go ih true t = (here t, ih)
     go ih false t = ih
 
-module _ {A : Type 0} (c : Config) (answer : List Row → A) (law : CoversTwice c.prunes answer) (two : c.two_passes ≡ true) (s : State) (i : IsSound c s)
+module _ {A : Type 0} (c : Config) (is_row : Row → Bool) (answer : List Row → A) (law : CoversTwice is_row c.prunes answer) (are : AreRows is_row (all_rows c)) (two : c.two_passes ≡ true) (s : State) (i : IsSound c s)
     (all : (x : Name) → In x (names_of c 2) → IsSettled s.received s.processed x) where
   abbrev firsts : List Name
   firsts = map (λ (y : Entry). y.name) (filter (is_of 1) s.processed)
@@ -128,6 +129,10 @@ module _ {A : Type 0} (c : Config) (answer : List Row → A) (law : CoversTwice 
 
   in_two : Each (λ y. (1 ≤ y.name.pass) × (y.name.pass ≤ 2)) s.processed
   in_two y h = let k = (i.entries y h).known in omega (arith, k.first, k.begun, i.in_range, cond-true {A = ℕ} c.two_passes 2 1 two)
+
+  -- the rows of names of the second pass are rows of the configuration
+  taken : (xs : List Name) → ((x : Name) → In x xs → In x (names_of c 2)) → AreRows is_row (map (row_at c) xs)
+  taken xs inside = named_rows c is_row 2 are xs inside
 
   -- a row that wasn't received was pruned in pass 2 of epoch 0
   pruned_at : (x : Name) → In x (names_of c 2) → got x ≡ false → (y : Entry) × In y s.processed × (y.name ≡ x) × (y.pruned ≡ true)
@@ -183,7 +188,7 @@ module _ {A : Type 0} (c : Config) (answer : List Row → A) (law : CoversTwice 
   hs = marked c got (filter (is_of 2) s.processed)
 
   covered : IsWhole c 1 s.processed → answer (map (row_at c) rest ++ map (λ h. h.0) (filter (λ h. h.1) hs)) ≡ answer (map (row_at c) rest ++ map (λ h. h.0) hs)
-  covered whole = law.cover (map (row_at c) firsts) (map (row_at c) rest) hs
+  covered whole = law.cover (map (row_at c) firsts) (map (row_at c) rest) hs (named_rows c is_row 1 are firsts (within 1))
       (subst (λ (zs : List Row). IsPermutation (map (row_at c) firsts) zs) (map-append (row_at c) rest ps ∙ ap (λ xs. map (row_at c) rest ++ xs) (sym (marked-rows c got (filter (is_of 2) s.processed))))
       (IsPermutation-trans (map (row_at c) firsts) (map (row_at c) (names_of c 2)) (map (row_at c) (rest ++ ps))
       (subst (λ (zs : List Row). IsPermutation (map (row_at c) firsts) zs) (names-rows c 1 ∙ sym (names-rows c 2)) (IsPermutation-map (row_at c) firsts (names_of c 1) (firsts_whole whole)))
@@ -192,11 +197,11 @@ module _ {A : Type 0} (c : Config) (answer : List Row → A) (law : CoversTwice 
 
   drop_some : (y : Entry) → In y s.processed → y.name.pass ≡ 2 → y.pruned ≡ true → answer (map (row_at c) (filter got (names_of c 2))) ≡ answer (map (row_at c) (names_of c 2))
   drop_some y h p t =
-      law.order _ _ (IsPermutation-map (row_at c) _ _ some)
+      law.order _ _ (taken (filter got (names_of c 2)) (λ x j. (In-filter got x (names_of c 2) j).0)) (IsPermutation-map (row_at c) _ _ some)
       ∙ (ap answer (map-append (row_at c) rest (filter got ps) ∙ ap (λ xs. map (row_at c) rest ++ xs) (sym (marked-stays c got (filter (is_of 2) s.processed))))
       ∙ (covered (whole_by y h p t)
       ∙ (ap answer (ap (λ xs. map (row_at c) rest ++ xs) (marked-rows c got (filter (is_of 2) s.processed)) ∙ sym (map-append (row_at c) rest ps))
-      ∙ sym (law.order _ _ (IsPermutation-map (row_at c) (names_of c 2) (rest ++ ps) most)))))
+      ∙ sym (law.order _ _ (taken (names_of c 2) (λ x j. j)) (IsPermutation-map (row_at c) (names_of c 2) (rest ++ ps) most)))))
 
   -- either each row was received, or one was pruned in pass 2
   drop_any : answer (map (row_at c) (filter got (names_of c 2))) ≡ answer (map (row_at c) (names_of c 2))
@@ -206,14 +211,14 @@ module _ {A : Type 0} (c : Config) (answer : List Row → A) (law : CoversTwice 
   ]
 
   pub twice_covers : answer (rows_received c 2 s.received) ≡ answer (all_rows c)
-  twice_covers = law.order _ _ (IsPermutation-map (row_at c) _ _ (received_rows c s i 2)) ∙ (drop_any ∙ ap answer (names-rows c 2))
+  twice_covers = sym (law.order _ _ (taken (filter got (names_of c 2)) (λ x j. (In-filter got x (names_of c 2) j).0)) (IsPermutation-sym _ _ (IsPermutation-map (row_at c) _ _ (received_rows c s i 2)))) ∙ (drop_any ∙ ap answer (names-rows c 2))
 
-pub two_pass_answer : {A : Type 0} (c : Config) (answer : List Row → A) (s : State) → c.two_passes ≡ true → CoversTwice c.prunes answer → IsReached c s → stopped c s ≡ true
+pub two_pass_answer : {A : Type 0} (c : Config) (is_row : Row → Bool) (answer : List Row → A) (s : State) → c.two_passes ≡ true → CoversTwice is_row c.prunes answer → AreRows is_row (all_rows c) → IsReached c s → stopped c s ≡ true
     → answer (rows_received c (passes c) s.received) ≡ answer (all_rows c)
-two_pass_answer c answer s two law reached stop =
+two_pass_answer c is_row answer s two law are reached stop =
     let i = reached_sound c s reached in
     let t = and_parts (eqb s.pass (passes c)) (confirmed c s) stop in
     let e : passes c ≡ 2 = cond-true {A = ℕ} c.two_passes 2 1 two in
     let p : s.pass ≡ 2 = eqb-true s.pass (passes c) t.0 ∙ e in
     ap (λ n. answer (rows_received c n s.received)) e
-    ∙ twice_covers c answer law two s i (λ x h. all_settled c s i t.1 x (subst (λ (n : ℕ). In x (names_of c n)) (sym p) h))
+    ∙ twice_covers c is_row answer law are two s i (λ x h. all_settled c s i t.1 x (subst (λ (n : ℕ). In x (names_of c n)) (sym p) h))

@@ -1,7 +1,9 @@
 -- How far the numbers of a pass have come, as the events of a round keep it.
 use Rattle.std.proofs.Common.{◌≡◌, ℕ, ◌<◌, ◌≤◌, Bool, true, false, ◌&&◌, eqb, nat_lt, List, [], ◌∷◌, ◌++◌, remove, slice_get, Option, Some, None, refl, ap, sym, ◌∙◌, subst, arith, inl, inr, ◌⊎◌, eq-eqb, ltb-true, lt-ltb}
 use Rattle.std.proofs.lemmas.Bool.{cases_lt, and_parts, and_from}
-use Rattle.ch_protocol.specs.Sets.{set_at, In}
+use Rattle.ch_lists.specs.Members.{In}
+use Rattle.ch_lists.proofs.Members.{In-left}
+use Rattle.ch_protocol.specs.Sets.{set_at}
 use Rattle.ch_protocol.specs.Packets.{Origin, Name, Packet, Ack}
 use Rattle.ch_protocol.specs.Packets.Origin.{Switch, Master}
 use Rattle.ch_protocol.specs.Sender.{open_numbers}
@@ -9,7 +11,7 @@ use Rattle.ch_protocol.specs.Machine.{can_send, Config, State, Event, size, work
 use Rattle.ch_protocol.specs.Machine.How.{Take}
 use Rattle.ch_protocol.specs.Drain.{IsPast}
 use Rattle.ch_protocol.specs.Invariant.{IsSound}
-use Rattle.ch_protocol.proofs.Lists.{In-left, In-last}
+use Rattle.ch_protocol.proofs.Lists.{In-last}
 use Rattle.ch_protocol.proofs.Tests.{either_way, all_below-at, set_at-same}
 use Rattle.ch_protocol_laws.proofs.Sound.{step_sound}
 use Rattle.ch_protocol_laws.proofs.Acks.{still}

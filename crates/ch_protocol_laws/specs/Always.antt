@@ -1,6 +1,7 @@
 -- What holds in every state that a run reaches, fact by fact.
 use Rattle.std.specs.Prelude.{◌≡◌, ◌↔◌, ◌⊎◌, ℕ, suc, ◌==◌, ◌<◌, ◌≤◌, min, true, ◌&&◌, if◌then◌else◌, List, [], ◌∷◌, ◌++◌, length}
-use Rattle.ch_protocol.specs.Sets.{In, Each, AreDifferent, all_below, numbers_from}
+use Rattle.ch_lists.specs.Members.{In, Each, AreDifferent}
+use Rattle.ch_protocol.specs.Sets.{all_below, numbers_from}
 use Rattle.ch_protocol.specs.Packets.Origin.{Switch, Master}
 use Rattle.ch_protocol.specs.Machine.{Entry, Config, State, size, workers, verdict}
 use Rattle.ch_protocol.specs.Invariant.{IsKnown, IsSettled, IsFirstProcessed, IsWhole}

@@ -1,4 +1,2 @@
 pub mod Always
 pub mod Settled
-pub mod Samples
-pub mod Processed

@@ -1,6 +1,6 @@
 -- What holds of the last pass's rows once the run has stopped.
 use Rattle.std.specs.Prelude.{◌≡◌, ◌<◌, true, false}
-use Rattle.ch_protocol.specs.Sets.{In, Each}
+use Rattle.ch_lists.specs.Members.{In, Each}
 use Rattle.ch_protocol.specs.Packets.{Name}
 use Rattle.ch_protocol.specs.Machine.{Config, State, size, workers, passes}
 use Rattle.ch_protocol.specs.Invariant.{IsSettled, IsWhole}

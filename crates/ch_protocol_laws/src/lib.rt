@@ -5,17 +5,17 @@
 #![tactic(auto)]
 
 ghost use Rattle.std.specs.Prelude.{◌≡◌, ◌≢◌, ◌⊎◌, ◌<◌, ◌≤◌, ℕ, Bool, true, false, List, []};
-ghost use Rattle.ch_protocol.specs.Packets.{Row};
 ghost use Rattle.ch_protocol.specs.Sender.{least_open};
-ghost use Rattle.ch_protocol.specs.Machine.{Policy, Config, State, Event, IsReached, start, step, stopped, passes, size, workers, can_send};
+ghost use Rattle.ch_protocol.specs.Machine.{Config, State, Event, IsReached, start, step, stopped, passes, size, workers, can_send};
 ghost use Rattle.ch_protocol.specs.Drain.{IsPast, repeat, take_turn, round, most_rounds, drain};
 ghost use Rattle.ch_protocol.specs.Outcome.{outcome, report, after_schedule};
 ghost use Rattle.ch_protocol.specs.Outcome.Outcome.{Done};
-ghost use Rattle.ch_protocol.specs.Cover.{CoversOnce, CoversTwice, CoversRowByRow, all_rows, rows_received};
+ghost use Rattle.ch_cover.specs.Rows.{AreRows, Row};
+ghost use Rattle.ch_cover.specs.Cover.{CoversOnce, CoversTwice};
+ghost use Rattle.ch_cover.specs.Samples.{is_gated, greatest, below_greatest, how_many, by_bit, keys, but_first_of_key};
+ghost use Rattle.ch_protocol.specs.Received.{all_rows, rows_received};
 ghost use Rattle.ch_protocol.specs.Invariant.{IsSound};
 ghost use Rattle.ch_protocol_laws.specs.Always.{AreLinksKnown, IsNoEpochAbove, AreProcessedInOrder, EndBelowExpected, AreExactlyBelowExpected, IsHistoryOrdered, AreVerdictsGiven, IsFirstPassWhole, AreOtherPassesExpected, IsExpectedSent, AreReceivedOnce, IsDownBelowExpected, AreAcksTrue, AreAckedSettled, IsPrunedInFirstEpoch, IsFinLast};
-ghost use Rattle.ch_protocol_laws.specs.Processed.{CoversProcessedOnce, CoversProcessedTwice};
-ghost use Rattle.ch_protocol_laws.specs.Samples.{greatest, below_greatest, keys, but_first_of_key};
 ghost use Rattle.ch_protocol_laws.specs.Settled.{AreAllSettled, AreMissingPruned, AreKeptReceived};
 
 /// Each event leads from a reached state to a reached one, and so does drain.
@@ -67,27 +67,16 @@ pub fn settled()
 
 /// In a kind with one pass the answer over what the master received is that over all rows, once the run has stopped.
 pub fn one_pass<A>()
-    ensures { (c : Config) (answer : List Row → A) (s : State) → c.two_passes ≡ false → CoversOnce c.prunes answer
+    ensures { (c : Config) (is_row : Row → Bool) (answer : List Row → A) (s : State) → c.two_passes ≡ false → CoversOnce is_row c.prunes answer → AreRows is_row (all_rows c)
         → IsReached c s → stopped c s ≡ true
         → answer (rows_received c (passes c) s.received) ≡ answer (all_rows c) }
 {}
 
 /// The same in a kind with two passes.
 pub fn two_passes<A>()
-    ensures { (c : Config) (answer : List Row → A) (s : State) → c.two_passes ≡ true → CoversTwice c.prunes answer
+    ensures { (c : Config) (is_row : Row → Bool) (answer : List Row → A) (s : State) → c.two_passes ≡ true → CoversTwice is_row c.prunes answer → AreRows is_row (all_rows c)
         → IsReached c s → stopped c s ≡ true
         → answer (rows_received c (passes c) s.received) ≡ answer (all_rows c) }
-{}
-
-/// A policy whose second pass has no memory of its own rows meets the law of two passes row by row.
-pub fn row_by_row<A>()
-    ensures { (prunes : Policy) (answer : List Row → A) → CoversRowByRow prunes answer → CoversTwice prunes answer }
-{}
-
-/// The laws over processed rows alone are enough: other rows may be taken as processed later and staying.
-pub fn over_processed_rows<A>()
-    ensures once { (prunes : Policy) (answer : List Row → A) → CoversProcessedOnce prunes answer → CoversOnce prunes answer }
-    ensures twice { (prunes : Policy) (answer : List Row → A) → CoversProcessedTwice prunes answer → CoversTwice prunes answer }
 {}
 
 /// From every reached state each pass is over after so many rounds, and drain stops the run, where there is a worker and
@@ -114,13 +103,14 @@ pub fn outcomes()
     ensures named { (c : Config) (s : State) → 0 < workers c → 1 ≤ c.window → IsReached c s → stopped c s ≡ false → report c s ≢ [] }
 {}
 
-/// Two small policies meet the laws: with one pass the greatest key is that of all rows, and with two passes and a memory
-/// of the second the set of the keys is.
+/// The theorems at small policies that meet their laws: with one pass the greatest key is that of all rows, or, where each
+/// row's bit says whether its key is above 4, the number of those rows is; with two passes and a memory of the second the
+/// set of the keys is.
 pub fn samples()
-    ensures once { CoversOnce below_greatest greatest }
     ensures greatest { (c : Config) (s : State) → c.two_passes ≡ false → c.prunes ≡ below_greatest → IsReached c s → stopped c s ≡ true
         → greatest (rows_received c (passes c) s.received) ≡ greatest (all_rows c) }
-    ensures twice { CoversTwice but_first_of_key keys }
+    ensures gated { (c : Config) (s : State) → c.two_passes ≡ false → c.prunes ≡ by_bit → AreRows is_gated (all_rows c) → IsReached c s → stopped c s ≡ true
+        → how_many (rows_received c (passes c) s.received) ≡ how_many (all_rows c) }
     ensures keys { (c : Config) (s : State) → c.two_passes ≡ true → c.prunes ≡ but_first_of_key → IsReached c s → stopped c s ≡ true
         → keys (rows_received c (passes c) s.received) ≡ keys (all_rows c) }
 {}

@@ -2,9 +2,11 @@
 use Rattle.std.specs.Prelude.{◌≡◌, ℕ, ◌==◌, nat_le, pos, nat_abs, slice_index_or, Bool, true, false, not, filter, ◌&&◌, ◌||◌, if◌then◌else◌, List, [], ◌∷◌, ◌++◌, map, reverse, replicate, sum_by}
 use Rattle.std.specs.List.{list_any}
 use Rattle.ch_protocol.specs.Sets.{numbers_from}
-use Rattle.ch_protocol.specs.Packets.{Tuple, Part, Row, Name}
+use Rattle.ch_cover.specs.Rows.{Row, Policy}
+use Rattle.ch_cover.specs.Samples.{by_bit}
+use Rattle.ch_protocol.specs.Packets.{Tuple, Part, Name}
 use Rattle.ch_protocol.specs.Sender.{acknowledged}
-use Rattle.ch_protocol.specs.Machine.{Policy, Config, Counts, State, Event, size, workers, start, step}
+use Rattle.ch_protocol.specs.Machine.{Config, Counts, State, Event, size, workers, start, step}
 use Rattle.ch_protocol.specs.Machine.How.{Take, Keep, Lose}
 use Rattle.ch_protocol.specs.Machine.Event.{Send, Resend, Up, Down, Back, Inject, Restart}
 use Rattle.ch_protocol.specs.Outcome.{OpenFlow, Outcome, outcome, after_schedule}
@@ -38,6 +40,10 @@ Drains c events counts acks names = Comes c (after_schedule c events true) (Done
 abbrev pub Stays : Config → List Event → List OpenFlow → Counts → List ℕ → List Name → Type 0
 Stays c events flows counts acks names = Comes c (after_schedule c events false) (Open flows) counts acks names
 
+-- the schedule has no drain, and the run is done
+abbrev pub Ends : Config → List Event → Counts → List ℕ → List Name → Type 0
+Ends c events counts acks names = Comes c (after_schedule c events false) (Done counts) counts acks names
+
 -- Tables
 
 -- a row whose bit is set or not, with some words
@@ -56,10 +62,6 @@ abbrev pub same_key : ℕ × Row → ℕ × Row → Bool
 same_key x y = word x.1 0 == word y.1 0
 
 -- Policies
-
--- a row is pruned where its bit isn't set
-abbrev pub by_bit : Policy
-by_bit before r = not r.1.bit
 
 -- a row is pruned where some row before it has its key
 abbrev pub by_any_key : Policy
@@ -111,6 +113,13 @@ two_fives = one_pass by_any_key (part 0 ((5 ∷ []) ∷ []) ∷ part 0 ((5 ∷ [
 abbrev pub two_nines : Config
 two_nines = one_pass by_bit (part 0 ((9 ∷ []) ∷ (9 ∷ []) ∷ []) ∷ [])
 
+-- one part without a row, and one whose row has no bit set
+abbrev pub no_rows : Config
+no_rows = one_pass by_bit (part 0 [] ∷ [])
+
+abbrev pub one_pruned : Config
+one_pruned = one_pass by_bit (record { side = 0; tuples = tuple false (3 ∷ []) ∷ [] } ∷ [])
+
 -- rows of a key and a value, whose sum is to be above a bound
 abbrev pub summed : ℕ → List (List ℕ) → Config
 summed bound rows = two_passes (by_sum bound) (part 0 rows ∷ [])
@@ -128,7 +137,7 @@ abbrev pub FilterEndToEnd : Type 0
 FilterEndToEnd = Drains three_numbers [] (counted 3 4 1 3 15) (4 ∷ []) (at 1 0 1 ∷ at 1 0 2 ∷ at 1 0 3 ∷ [])
 
 abbrev pub EmptyPart : Type 0
-EmptyPart = Drains (one_pass by_bit (part 0 [] ∷ [])) [] (counted 0 1 0 1 4) (1 ∷ []) (at 1 0 0 ∷ [])
+EmptyPart = Drains no_rows [] (counted 0 1 0 1 4) (1 ∷ []) (at 1 0 0 ∷ [])
 
 abbrev pub TwoParts : Type 0
 TwoParts = Drains (one_pass by_bit (record { side = 0; tuples = tuple false (3 ∷ []) ∷ tuple true (9 ∷ []) ∷ [] } ∷ part 0 ((5 ∷ []) ∷ []) ∷ [])) []
@@ -163,11 +172,16 @@ OneCachedKey = Drains (one_pass by_last_key (part 0 ((5 ∷ []) ∷ (5 ∷ []) �
 abbrev pub lost : List Event
 lost = Send 0 ∷ Up 0 Lose ∷ Resend 0 0 ∷ Up 0 Lose ∷ Resend 0 0 ∷ Up 0 Lose ∷ Resend 0 0 ∷ Up 0 Lose ∷ []
 
-abbrev pub DeadLink : Type 0
-DeadLink = Stays (one_nine by_bit) lost (flow 1 0 0 2 (0 ∷ []) ∷ []) (counted 1 4 0 0 8) (0 ∷ []) []
+abbrev pub LostFourTimes : Type 0
+LostFourTimes = Stays (one_nine by_bit) lost (flow 1 0 0 2 (0 ∷ []) ∷ []) (counted 1 4 0 0 8) (0 ∷ []) []
 
-abbrev pub DeadLinkDrained : Type 0
-DeadLinkDrained = Drains (one_nine by_bit) lost (counted 1 6 0 2 16) (2 ∷ []) (at 1 0 0 ∷ at 1 0 1 ∷ [])
+abbrev pub LostThenDrained : Type 0
+LostThenDrained = Drains (one_nine by_bit) lost (counted 1 6 0 2 16) (2 ∷ []) (at 1 0 0 ∷ at 1 0 1 ∷ [])
+
+-- a packet that is delivered and kept stays at its place, before the one behind it
+abbrev pub KeptAtItsPlace : Type 0
+KeptAtItsPlace = Stays two_nines (Send 0 ∷ Send 0 ∷ Up 0 Keep ∷ Up 0 Take ∷ Up 0 Take ∷ Down 1 Take ∷ Back 0 Take ∷ [])
+    (flow 1 0 1 3 (1 ∷ []) ∷ []) (counted 2 2 0 3 7) (1 ∷ []) (at 1 0 0 ∷ [])
 
 abbrev pub InjectedByte : Type 0
 InjectedByte = Drains three_numbers (Inject ∷ []) (counted 3 4 1 3 16) (4 ∷ []) (at 1 0 1 ∷ at 1 0 2 ∷ at 1 0 3 ∷ [])
@@ -182,6 +196,11 @@ WindowOfOne = Stays (record two_nines { window = 1 })
 -- the Fin isn't sent while a row is unacknowledged
 abbrev pub FinWaits : Type 0
 FinWaits = Stays two_nines (Send 0 ∷ Send 0 ∷ Send 0 ∷ Up 0 Take ∷ Down 0 Take ∷ Back 0 Take ∷ Send 0 ∷ []) (flow 1 0 1 3 (1 ∷ []) ∷ []) (counted 2 2 0 1 7) (1 ∷ []) (at 1 0 0 ∷ [])
+
+-- the window counts from the least unacknowledged number, so an acknowledgement of a later one makes no room
+abbrev pub WindowFromTheLeast : Type 0
+WindowFromTheLeast = Stays (record (one_pass by_bit (part 0 (replicate 4 (9 ∷ [])) ∷ [])) { window = 2 })
+    (Send 0 ∷ Send 0 ∷ Up 0 Take ∷ Up 0 Take ∷ Down 1 Take ∷ Back 0 Take ∷ Send 0 ∷ []) (flow 1 0 1 5 (0 ∷ []) ∷ []) (counted 4 2 0 2 7) (1 ∷ []) (at 1 0 1 ∷ [])
 
 -- a worker or a place that isn't there
 abbrev pub NothingThere : Type 0
@@ -214,7 +233,34 @@ abbrev pub ExpectedAfterARestart : Type 0
 ExpectedAfterARestart = Stays two_nines
     (Send 0 ∷ Send 0 ∷ Up 0 Take ∷ Up 0 Take ∷ Restart ∷ Resend 0 1 ∷ Up 0 Take ∷ []) (flow 1 0 0 3 (0 ∷ 1 ∷ []) ∷ []) (counted 2 3 0 2 7) (0 ∷ []) []
 
+-- the switch expects the least unacknowledged number and not 0, and what is acknowledged below it stays
+abbrev pub ExpectedFromTheLeast : Type 0
+ExpectedFromTheLeast = Stays two_nines
+    (Send 0 ∷ Up 0 Take ∷ Down 0 Take ∷ Back 0 Take ∷ Send 0 ∷ Restart ∷ Up 0 Take ∷ Down 0 Take ∷ Back 0 Take ∷ [])
+    (flow 1 0 2 3 [] ∷ []) (counted 2 2 0 2 9) (2 ∷ []) (at 1 0 0 ∷ at 1 0 1 ∷ [])
+
+-- a packet that was sent before the restart is met in the new epoch: the switch's acknowledgement has it
+abbrev pub PrunedInTheNewEpoch : Type 0
+PrunedInTheNewEpoch = Stays one_pruned (Send 0 ∷ Restart ∷ Up 0 Take ∷ Back 0 Take ∷ []) (flow 1 0 1 2 [] ∷ []) (counted 1 1 1 0 4) (1 ∷ []) []
+
+-- and so does a Fin on the link down
+abbrev pub FinInTheNewEpoch : Type 0
+FinInTheNewEpoch = Ends no_rows (Send 0 ∷ Restart ∷ Up 0 Take ∷ Down 0 Take ∷ Back 0 Take ∷ []) (counted 0 1 0 1 5) (1 ∷ []) (at 1 0 0 ∷ [])
+
+-- and a packet below the expected number, which goes on unprocessed
+abbrev pub PassedInTheNewEpoch : Type 0
+PassedInTheNewEpoch = Stays (one_nine by_bit)
+    (Send 0 ∷ Restart ∷ Resend 0 0 ∷ Up 1 Take ∷ Down 0 Lose ∷ Up 0 Take ∷ Down 0 Take ∷ Back 0 Take ∷ [])
+    (flow 1 0 1 2 [] ∷ []) (counted 1 2 0 2 8) (1 ∷ []) (at 1 0 0 ∷ [])
+
 -- Two passes
+
+-- A restart in pass 2 leaves what is expected in pass 1, so the Fin of pass 1 that stayed on the link passes. It stayed
+-- there as the pass changed
+abbrev pub RestartInPass2 : Type 0
+RestartInPass2 = Stays (summed 10 ((1 ∷ 6 ∷ []) ∷ []))
+    (Send 0 ∷ Up 0 Take ∷ Back 0 Take ∷ Send 0 ∷ Up 0 Keep ∷ Down 0 Take ∷ Back 0 Take ∷ Send 0 ∷ Restart ∷ Up 0 Take ∷ Up 0 Take ∷ Down 0 Take ∷ Down 0 Take ∷ Back 0 Take ∷ Back 0 Take ∷ [])
+    (flow 2 0 1 2 [] ∷ []) (counted 1 3 1 3 15) (1 ∷ []) (at 1 0 1 ∷ at 2 0 0 ∷ [])
 
 abbrev pub SumOnOneCell : Type 0
 SumOnOneCell = Drains (summed 10 six_four_one) [] (counted 3 8 3 5 29) (4 ∷ []) (at 1 0 3 ∷ at 2 0 0 ∷ at 2 0 1 ∷ at 2 0 2 ∷ at 2 0 3 ∷ [])
@@ -258,6 +304,6 @@ StepsAtTheirEnd = (step two_nines (record (start two_nines) { counts = counted 2
 
 -- a run that has stopped does nothing and counts nothing
 abbrev pub NothingAfterTheEnd : Type 0
-NothingAfterTheEnd = Comes (one_pass by_bit (part 0 [] ∷ []))
-    (step (one_pass by_bit (part 0 [] ∷ [])) (after_schedule (one_pass by_bit (part 0 [] ∷ [])) (Send 0 ∷ Up 0 Take ∷ Down 0 Take ∷ Back 0 Take ∷ []) false) Restart)
+NothingAfterTheEnd = Comes no_rows
+    (step no_rows (after_schedule no_rows (Send 0 ∷ Up 0 Take ∷ Down 0 Take ∷ Back 0 Take ∷ []) false) Restart)
     (Done (counted 0 1 0 1 4)) (counted 0 1 0 1 4) (1 ∷ []) (at 1 0 0 ∷ [])

@@ -3,7 +3,7 @@ use Rattle.std.proofs.Common.{refl}
 use Rattle.ch_protocol.specs.Sets.{least, all_below}
 use Rattle.ch_protocol.specs.Machine.{step}
 use Rattle.ch_protocol.specs.Drain.{repeat, sends, turns, round}
-use Rattle.ch_protocol.proofs.worked_on_counts.Goals as goal
+use Rattle.ch_protocol_rows.proofs.worked_on_counts.Goals as goal
 
 pub returns-clause-count_at_its_end : goal.returns-clause-count_at_its_end
 unfolding least all_below step repeat sends turns round

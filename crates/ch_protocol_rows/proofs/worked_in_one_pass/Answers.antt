@@ -3,7 +3,7 @@ use Rattle.std.proofs.Common.{refl}
 use Rattle.ch_protocol.specs.Sets.{least, all_below}
 use Rattle.ch_protocol.specs.Machine.{step}
 use Rattle.ch_protocol.specs.Drain.{repeat, sends, turns, round}
-use Rattle.ch_protocol.proofs.worked_in_one_pass.Goals as goal
+use Rattle.ch_protocol_rows.proofs.worked_in_one_pass.Goals as goal
 
 pub returns-clause-filter_end_to_end : goal.returns-clause-filter_end_to_end
 unfolding least all_below step repeat sends turns round
@@ -41,14 +41,18 @@ pub returns-clause-one_cached_key : goal.returns-clause-one_cached_key
 unfolding least all_below step repeat sends turns round
 returns-clause-one_cached_key _ = record { outcome = refl; counted = refl; acked = refl; received = refl }
 
-pub returns-clause-dead_link : goal.returns-clause-dead_link
+pub returns-clause-lost_four_times : goal.returns-clause-lost_four_times
 unfolding least all_below step repeat sends turns round
-returns-clause-dead_link _ = record { outcome = refl; counted = refl; acked = refl; received = refl }
+returns-clause-lost_four_times _ = record { outcome = refl; counted = refl; acked = refl; received = refl }
 
-pub returns-clause-dead_link_drained : goal.returns-clause-dead_link_drained
+pub returns-clause-lost_then_drained : goal.returns-clause-lost_then_drained
 unfolding least all_below step repeat sends turns round
-returns-clause-dead_link_drained _ = record { outcome = refl; counted = refl; acked = refl; received = refl }
+returns-clause-lost_then_drained _ = record { outcome = refl; counted = refl; acked = refl; received = refl }
 
 pub returns-clause-injected_byte : goal.returns-clause-injected_byte
 unfolding least all_below step repeat sends turns round
 returns-clause-injected_byte _ = record { outcome = refl; counted = refl; acked = refl; received = refl }
+
+pub returns-clause-kept_at_its_place : goal.returns-clause-kept_at_its_place
+unfolding least all_below step repeat sends turns round
+returns-clause-kept_at_its_place _ = record { outcome = refl; counted = refl; acked = refl; received = refl }

@@ -3,7 +3,7 @@ use Rattle.std.proofs.Common.{refl}
 use Rattle.ch_protocol.specs.Sets.{least, all_below}
 use Rattle.ch_protocol.specs.Machine.{step}
 use Rattle.ch_protocol.specs.Drain.{repeat, sends, turns, round}
-use Rattle.ch_protocol.proofs.worked_in_two_passes.Goals as goal
+use Rattle.ch_protocol_rows.proofs.worked_in_two_passes.Goals as goal
 
 pub returns-clause-sum_on_one_cell : goal.returns-clause-sum_on_one_cell
 unfolding least all_below step repeat sends turns round
