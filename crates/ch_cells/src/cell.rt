@@ -1,18 +1,28 @@
 ghost use Rattle.std.specs.Prelude.{◌≡◌, IfOk};
-ghost use Rattle.std.specs.Cmp.{IsTotalOrder};
+ghost use Rattle.ch_lists.specs.Ordered.{IsExactOrder};
 ghost use Rattle.ch_cells.specs.Cell.{cell_cmp};
 
 use crate::bytes::Bytes;
+use crate::cell_ref::{cmp_lent, copy_lent, lend_cell};
 use crate::memory::Memory;
 use std::alloc::Global;
 use std::cmp::Ordering;
 
 /// A number of at most `2^61 - 1` in magnitude, or a text of bytes. Each cell that a table holds is one; the type itself
 /// doesn't bound the number.
-#[derive(Debug, Drop)]
+#[derive(Debug)]
 pub enum Cell {
     Number(i64),
     Text(Bytes),
+}
+
+impl Drop for Cell {
+    fn drop(self) {
+        match self {
+            Cell::Number(_) => {}
+            Cell::Text(_) => {}
+        }
+    }
 }
 
 /// What the cells of a column are. A column without rows is `Void`.
@@ -27,12 +37,7 @@ pub enum Kind {
 pub fn cmp_cells(a: &Cell, b: &Cell) -> Ordering
     ensures { result ≡ cell_cmp a.now b.now }
 {
-    match (a, b) {
-        (Cell::Number(x), Cell::Number(y)) => x.cmp(y),
-        (Cell::Number(_), Cell::Text(_)) => Ordering::Less,
-        (Cell::Text(_), Cell::Number(_)) => Ordering::Greater,
-        (Cell::Text(x), Cell::Text(y)) => x.as_slice().cmp(y.as_slice()),
-    }
+    cmp_lent(lend_cell(a), lend_cell(b))
 }
 
 impl Ord for Cell {
@@ -90,16 +95,13 @@ impl PartialEq for Cell {
     }
 }
 
-/// The order of cells is a total one.
+/// The order of cells is a total one, and only a cell itself compares equal to it.
 pub fn cells_are_ordered()
-    ensures { IsTotalOrder cell_cmp }
+    ensures { IsExactOrder cell_cmp }
 {}
 
 pub fn copy_cell(alloc: Global, cell: &Cell) -> Result<Cell, Memory>
     ensures { IfOk result (λ copy. copy ≡ cell.now) }
 {
-    match cell {
-        Cell::Number(n) => Ok(Cell::Number(*n)),
-        Cell::Text(text) => Ok(Cell::Text(Bytes::from_slice(alloc, text.as_slice())?)),
-    }
+    copy_lent(alloc, lend_cell(cell))
 }

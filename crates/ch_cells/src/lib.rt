@@ -12,7 +12,7 @@ mod row;
 
 pub use bytes::Bytes;
 pub use cell::{Cell, Kind, cells_are_ordered, cmp_cells, copy_cell};
-pub use cell_ref::{CellRef, lend_cell};
+pub use cell_ref::{CellRef, cmp_lent, copy_lent, lend_cell};
 pub use listed::Listed;
 pub use memory::Memory;
 pub use number::{read_number, spelling_is_decimal};

@@ -67,55 +67,48 @@ impl<T: Drop> Listed<T> {
     }
 }
 
+impl<T: PartialEq> PartialEq for Listed<T> {
+    ghost use Rattle.std.specs.Cmp.Lexicographic.{pointwise, lists_per};
+
+    ghost eq = { pointwise T.eq };
+
+    ghost laws = { lists_per T.laws };
+
+    fn eq(&self, other: &Listed<T>) -> bool {
+        self.items == other.items
+    }
+}
+
+impl<T: Eq> Eq for Listed<T> {
+    ghost use Rattle.std.specs.Cmp.Lexicographic.{lists_equiv};
+
+    ghost laws = { lists_equiv T.Eq.laws };
+}
+
+impl<T: PartialOrd> PartialOrd for Listed<T> {
+    ghost use Rattle.std.specs.Cmp.Lexicographic.{slice_partial_cmp, lists_po};
+
+    ghost partial_cmp = { slice_partial_cmp T.partial_cmp };
+
+    ghost laws = { lists_po T.PartialOrd.laws };
+
+    fn partial_cmp(&self, other: &Listed<T>) -> Option<Ordering> {
+        self.items.partial_cmp(&other.items)
+    }
+}
+
 impl<T: Ord> Ord for Listed<T> {
-    ghost use Rattle.std.proofs.Common.{refl};
-    ghost use Rattle.std.specs.Cmp.Lexicographic.{slice_cmp};
-    ghost use Rattle.std.specs.Cmp.Lexicographic.{lists_total};
+    ghost use Rattle.std.specs.Cmp.Lexicographic.{slice_cmp, lists_total, lists_agrees, lists_ties};
 
     ghost cmp = { slice_cmp T.cmp };
 
-    ghost total = { lists_total T.Ord.total };
+    ghost total = { lists_total T.total };
 
-    ghost matches_partial_cmp = { λ x y. refl };
+    ghost matches_partial_cmp = { λ x y. lists_agrees T.matches_partial_cmp x y };
 
-    ghost matches_eq = { λ x y. refl };
+    ghost matches_eq = { λ x y. lists_ties T.cmp T.matches_eq x y };
 
     fn cmp(&self, other: &Listed<T>) -> Ordering {
         self.items.as_slice().cmp(other.items.as_slice())
-    }
-}
-
-impl<T: Ord> PartialOrd for Listed<T> {
-    ghost use Rattle.std.specs.Ordering.{as_partial_cmp};
-    ghost use Rattle.std.specs.Cmp.{partial_order_from_total};
-    ghost use Rattle.std.specs.Cmp.Lexicographic.{slice_cmp, lists_total};
-
-    ghost partial_cmp = { as_partial_cmp (slice_cmp T.cmp) };
-
-    ghost laws = { partial_order_from_total (lists_total T.Ord.total) };
-
-    fn partial_cmp(&self, other: &Listed<T>) -> Option<Ordering> {
-        Some(self.items.as_slice().cmp(other.items.as_slice()))
-    }
-}
-
-impl<T: Ord> Eq for Listed<T> {
-    ghost use Rattle.std.specs.Cmp.{eq_by_cmp_equiv};
-    ghost use Rattle.std.specs.Cmp.Lexicographic.{lists_total};
-
-    ghost laws = { eq_by_cmp_equiv (lists_total T.Ord.total) };
-}
-
-impl<T: Ord> PartialEq for Listed<T> {
-    ghost use Rattle.std.specs.Ordering.{eq_by_cmp};
-    ghost use Rattle.std.specs.Cmp.{eq_by_cmp_equiv, partial_equiv_from_equiv};
-    ghost use Rattle.std.specs.Cmp.Lexicographic.{slice_cmp, lists_total};
-
-    ghost eq = { eq_by_cmp (slice_cmp T.cmp) };
-
-    ghost laws = { partial_equiv_from_equiv (eq_by_cmp_equiv (lists_total T.Ord.total)) };
-
-    fn eq(&self, other: &Listed<T>) -> bool {
-        self.items.as_slice().cmp(other.items.as_slice()).is_eq()
     }
 }

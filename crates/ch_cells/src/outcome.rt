@@ -17,7 +17,7 @@ pub struct Counts {
 }
 
 /// A worker whose end isn't acknowledged in the current pass.
-#[derive(Debug, Drop)]
+#[derive(Debug, PartialEq, Eq, Drop)]
 pub struct OpenFlow {
     pub pass: u8,
     pub worker: u16,
@@ -30,7 +30,7 @@ pub struct OpenFlow {
 }
 
 /// The answer of a query.
-#[derive(Debug, Drop)]
+#[derive(Debug, PartialEq, Eq, Drop)]
 pub struct Answer {
     pub header: Header,
     /// Each with as many cells as the header has names.

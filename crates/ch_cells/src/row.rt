@@ -1,5 +1,5 @@
 ghost use Rattle.std.specs.Prelude.{◌≡◌, List, IfOk, OnOk, OnErr, IsPermutation, IsSorted};
-ghost use Rattle.std.specs.Cmp.{IsTotalOrder};
+ghost use Rattle.ch_lists.specs.Ordered.{IsExactOrder};
 ghost use Rattle.ch_cells.specs.Row.{row_cmp, ascending};
 ghost use Rattle.ch_cells.specs.declared.cell.Cell.{Cell};
 
@@ -42,9 +42,10 @@ pub fn sort_rows(rows: &mut Vec<Row>) -> Result<(), Memory>
     Ok(())
 }
 
-/// The order of rows is a total one, and `ascending` gives the same rows in this order.
+/// The order of rows is a total one in which only a row itself compares equal to it, and `ascending` gives the same rows
+/// in this order: the laws of `ch_lists` hold for it.
 pub fn rows_are_ordered()
-    ensures order { IsTotalOrder row_cmp }
+    ensures order { IsExactOrder row_cmp }
     ensures sorted { (rows : List (List Cell)) → IsSorted row_cmp (ascending rows) }
     ensures same { (rows : List (List Cell)) → IsPermutation rows (ascending rows) }
 {}

@@ -6,28 +6,29 @@ use std::alloc::Global;
 use std::cmp::Ordering;
 use std::test::Fail;
 
+const SPELLINGS: &[(&[u8], Option<i64>)] = &[
+    (b"0", Some(0)),
+    (b"7", Some(7)),
+    (b"-7", Some(-7)),
+    (b"10", Some(10)),
+    (b"2305843009213693951", Some(2305843009213693951)),
+    (b"-2305843009213693951", Some(-2305843009213693951)),
+    (b"2305843009213693952", None),
+    (b"-2305843009213693952", None),
+    (b"99999999999999999999999", None),
+    (b"", None),
+    (b"-", None),
+    (b"-0", None),
+    (b"007", None),
+    (b"+1", None),
+    (b"1 ", None),
+    (b"1.5", None),
+];
+
 #[test]
 fn numbers_have_one_spelling(rt: HostRuntime) {
-    let cases: [(&[u8], Option<i64>); 16] = [
-        (b"0", Some(0)),
-        (b"7", Some(7)),
-        (b"-7", Some(-7)),
-        (b"10", Some(10)),
-        (b"2305843009213693951", Some(2305843009213693951)),
-        (b"-2305843009213693951", Some(-2305843009213693951)),
-        (b"2305843009213693952", None),
-        (b"-2305843009213693952", None),
-        (b"99999999999999999999999", None),
-        (b"", None),
-        (b"-", None),
-        (b"-0", None),
-        (b"007", None),
-        (b"+1", None),
-        (b"1 ", None),
-        (b"1.5", None),
-    ];
-    for (text, number) in cases {
-        assert_eq!(rt; read_number(text), number, "{text:?}");
+    for (text, number) in SPELLINGS {
+        assert_eq!(rt; read_number(text), *number, "{text:?}");
     }
 }
 
@@ -58,6 +59,16 @@ fn cells_are_compared_and_copied(rt: HostRuntime) -> Result<(), Fail> {
         CellRef::Text(bytes) => assert_eq!(rt; bytes, b"x".as_slice()),
         CellRef::Number(_) => assert!(rt; false),
     }
+    Ok(())
+}
+
+#[test]
+fn bytes_are_compared(rt: HostRuntime) -> Result<(), Fail> {
+    let ab = Bytes::from_slice(rt.alloc(), b"ab")?;
+    let b = Bytes::from_slice(rt.alloc(), b"b")?;
+    assert!(rt; ab == ab && ab != b);
+    assert_eq!(rt; ab.cmp(&b), Ordering::Less);
+    assert_eq!(rt; b.partial_cmp(&ab), Some(Ordering::Greater));
     Ok(())
 }
 
@@ -94,6 +105,7 @@ fn rows_are_compared_copied_and_sorted(rt: HostRuntime) -> Result<(), Fail> {
     for (found, cells) in rows.iter().zip(expected) {
         let wanted = row(alloc, cells)?;
         assert_eq!(rt; cmp_rows(found, &wanted), Ordering::Equal);
+        assert!(rt; *found == wanted);
         assert_eq!(rt; cmp_rows(&copy_row(alloc, found)?, found), Ordering::Equal);
     }
     Ok(())
