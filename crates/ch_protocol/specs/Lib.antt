@@ -1,9 +1,12 @@
 pub mod Sets
 pub mod Packets
 pub mod Sender
+pub mod Forwarder
 pub mod Receiver
 pub mod Machine
+pub mod Fates
 pub mod Drain
+pub mod DrainEvents
 pub mod Outcome
 pub mod Received
 pub mod Invariant

@@ -1,10 +1,13 @@
 -- The protocol as a pure machine: its state, its events, and what each event makes of a state.
-use Rattle.std.specs.Prelude.{◌≡◌, ℕ, suc, ◌+◌, ◌==◌, nat_lt, min, Bool, true, false, ◌&&◌, if◌then◌else◌, List, [], ◌∷◌, ◌++◌, length, map, filter, remove, slice_get, slice_index_or, sum_by, Option, Some, None}
+use Rattle.std.specs.Prelude.{◌≡◌, ℕ, suc, ◌+◌, ◌==◌, nat_lt, min, Bool, true, false, not, ◌&&◌, if◌then◌else◌, List, [], ◌∷◌, ◌++◌, length, map, filter, remove, slice_get, slice_index_or, sum_by, Option, Some, None}
 use Rattle.ch_protocol.specs.Sets.{all_below, set_at}
 use Rattle.ch_protocol.specs.Packets.{Part, Name, Packet, Ack}
 use Rattle.ch_protocol.specs.Packets.Origin.{Switch, Master}
 use Rattle.ch_protocol.specs.Sender.{least_open, may_send, open_at, acknowledge, is_current, cut_to_least, is_done, first_number, none_acked}
+use Rattle.ch_protocol.specs.Forwarder.{none_expected, fate_of, expect_after, expect_from}
 use Rattle.ch_protocol.specs.Receiver.{collect}
+use Rattle.ch_protocol.specs.declared.fate.Fate.{Fate}
+use Rattle.ch_protocol.specs.declared.fate.Fate.TheVariants.{Dropped, Pruned, Forwarded, Passed}
 use Rattle.ch_cover.specs.Rows.{Policy, Row}
 
 -- What stays the same in a run: each worker's part, how far a worker may send beyond its least unacknowledged number,
@@ -148,9 +151,6 @@ prune s x = record s {
   counts = record s.counts { pruned = one_more s.counts.pruned };
 }
 
-abbrev pub expect_next : State → Name → State
-expect_next s x = record s { expected = set_at x.pass (set_at x.worker (suc (s.expected x.pass x.worker)) (s.expected x.pass)) s.expected }
-
 -- the rows that the switch processed in an epoch
 abbrev pub entries_of : ℕ → List Entry → List Entry
 entries_of epoch entries = filter (λ y. y.epoch == epoch) entries
@@ -159,28 +159,39 @@ entries_of epoch entries = filter (λ y. y.epoch == epoch) entries
 abbrev pub seen : Config → Name → ℕ × Row
 seen c x = (x.pass, row_at c x)
 
--- The verdict on a row: the policy's after the rows that the switch processed in the epoch, but in a kind of two passes
--- each row is kept once the switch was restarted
+-- in a kind of two passes the switch keeps each row once it was restarted
+abbrev pub keeps_all : Config → ℕ → Bool
+keeps_all c epoch = c.two_passes && nat_lt 0 epoch
+
+-- the verdict on a row: the policy's after the rows that the switch processed in the epoch, unless it keeps each row
 abbrev pub verdict : Config → ℕ → List Entry → Name → Bool
-verdict c epoch before x =
-    if c.two_passes && nat_lt 0 epoch then false else c.prunes (map (λ y. seen c y.name) (entries_of epoch before)) (seen c x)
+verdict c epoch before x = if keeps_all c epoch then false else c.prunes (map (λ y. seen c y.name) (entries_of epoch before)) (seen c x)
 
-abbrev pub note_entry : State → Name → Bool → State
-note_entry s x pruned = record s { processed = record { name = x; epoch = s.epoch; pruned = pruned } ∷ s.processed }
+-- the fate of a packet that meets the switch: a Fin is never pruned
+abbrev pub fate_at : Config → State → Name → Fate
+fate_at c s x = fate_of (s.expected x.pass x.worker) x.number (not (is_fin c x) && verdict c s.epoch s.processed x)
 
--- a row is processed: pruned and acknowledged, or kept and sent on
-abbrev pub process : State → Name → Bool → State
-process s x pruned = if pruned then prune (note_entry s x true) x else go_down (note_entry s x false) x
+-- the processed rows after a packet with this fate, a Fin or a row: one more where it is an accepted row
+abbrev pub noted : Bool → Fate → ℕ → Name → List Entry → List Entry
+noted fin Dropped epoch x processed = processed
+noted fin Pruned epoch x processed = record { name = x; epoch = epoch; pruned = true } ∷ processed
+noted fin Forwarded epoch x processed = if fin then processed else record { name = x; epoch = epoch; pruned = false } ∷ processed
+noted fin Passed epoch x processed = processed
 
--- a packet whose number is the expected one
-abbrev pub accept : Config → State → Name → State
-accept c s x = if is_fin c x then go_down s x else process s x (verdict c s.epoch s.processed x)
+-- where a packet with this fate goes
+abbrev pub go_on : Fate → State → Name → State
+go_on Dropped s x = s
+go_on Pruned s x = prune s x
+go_on Forwarded s x = go_down s x
+go_on Passed s x = go_down s x
 
--- a packet meets the switch: above the expected number it is dropped, below it it goes on unprocessed
+-- what a packet with this fate, a Fin or a row, makes of the state
+abbrev pub follow : Bool → Fate → State → Name → State
+follow fin fate s x = go_on fate (record s { expected = expect_after fate x.pass x.worker s.expected; processed = noted fin fate s.epoch x s.processed }) x
+
+-- a packet meets the switch
 abbrev pub meet : Config → State → Name → State
-meet c s x =
-    let e = s.expected x.pass x.worker in
-    if nat_lt e x.number then s else if nat_lt x.number e then go_down s x else accept c (expect_next s x) x
+meet c s x = follow (is_fin c x) (fate_at c s x) s x
 
 -- the master receives a packet, and acknowledges it with the packet's own epoch, whether it is new or not
 abbrev pub receive : State → Packet → State
@@ -221,7 +232,7 @@ abbrev pub restart : Config → State → State
 restart c s = record s {
   epoch = suc s.epoch;
   acked = (λ w. cut_to_least (size c w) (s.acked w));
-  expected = set_at s.pass (λ w. if nat_lt w (workers c) then least_open (size c w) (s.acked w) else s.expected s.pass w) s.expected;
+  expected = expect_from (workers c) s.pass (λ w. least_open (size c w) (s.acked w)) s.expected;
 }
 
 -- what an event does by itself
@@ -258,7 +269,7 @@ start c = record {
   epoch = 0;
   next = (λ w. first_number);
   acked = (λ w. none_acked);
-  expected = (λ pass w. 0);
+  expected = none_expected;
   processed = [];
   received = [];
   up = [];

@@ -11,11 +11,11 @@ use Rattle.ch_protocol_laws.proofs.Ways.{IsReady, step_cases, step_ready}
 use Rattle.ch_protocol_laws.proofs.Rounds.{run_ready}
 use Rattle.ch_protocol.proofs.Tests.{set_at-same, all_below-at}
 
-step_stopped : (c : Config) (s : State) (ev : Event) → stopped c s ≡ true → step c s ev ≡ s
+pub step_stopped : (c : Config) (s : State) (ev : Event) → stopped c s ≡ true → step c s ev ≡ s
 unfolding step
 step_stopped c s ev t = cond-true (stopped c s) s (change_pass c (count_step (effect c s ev))) t
 
-repeat_stopped : (c : Config) (f : State → State) (n : ℕ) (s : State) → f s ≡ s → repeat f n s ≡ s
+pub repeat_stopped : (c : Config) (f : State → State) (n : ℕ) (s : State) → f s ≡ s → repeat f n s ≡ s
 unfolding repeat
 repeat_stopped c f zero s e = refl
 repeat_stopped c f (suc n) s e = ap (repeat f n) e ∙ repeat_stopped c f n s e

@@ -1,8 +1,10 @@
 pub mod Links
 pub mod Acks
+pub mod Meets
 pub mod Switch
 pub mod Sound
 pub mod Names
+pub mod Arrived
 pub mod Entries
 pub mod Done
 pub mod Once
@@ -11,6 +13,8 @@ pub mod Ways
 pub mod Rounds
 pub mod Drained
 pub mod Fuel
+pub mod DrainEvents
+pub mod Made
 pub mod Reached
 pub mod Numbers
 pub mod Facts

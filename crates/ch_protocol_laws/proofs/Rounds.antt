@@ -1,17 +1,18 @@
 -- Each round acknowledges one more number of each worker, so the rounds confirm each pass.
-use Rattle.std.proofs.Common.{◌≡◌, ℕ, zero, suc, ◌+◌, ◌-◌, ◌<◌, ◌≤◌, Bool, true, false, not, ◌&&◌, eqb, nat_lt, List, [], ◌∷◌, ◌++◌, length, map, sum, filter, remove, slice_get, Option, Some, None, refl, ap, sym, ◌∙◌, subst, arith, inl, inr, ◌⊎◌, eq-eqb, lt-ltb}
+use Rattle.std.proofs.Common.{◌≡◌, ℕ, zero, suc, ◌+◌, ◌-◌, ◌<◌, ◌≤◌, Bool, true, not, ◌&&◌, eqb, nat_lt, List, [], ◌∷◌, ◌++◌, length, map, sum, filter, remove, slice_get, Option, Some, None, refl, ap, sym, ◌∙◌, subst, arith, inl, inr, ◌⊎◌, eq-eqb, lt-ltb}
 use Rattle.std.proofs.lemmas.Bool.{cases_Bool, cases_eq, cases_lt, and_from, or_left, or_right, cond-true}
 use Rattle.ch_lists.specs.Members.{In}
 use Rattle.ch_lists.proofs.Members.{In-left, In-filter_from}
 use Rattle.ch_protocol.specs.Sets.{all_below, numbers_from}
 use Rattle.ch_protocol.specs.Packets.{Name, Packet, Ack}
 use Rattle.ch_protocol.specs.Sender.{open_numbers, least_open, has_room, may_end}
-use Rattle.ch_protocol.specs.Machine.{Config, State, Event, size, workers, go_up, send_next, send, resend, resend_this, meet, expect_next, verdict, process, learn, meet_at, receive_at, learn_at, step, run, can_send}
+use Rattle.ch_protocol.specs.Machine.{Config, State, Event, size, workers, go_up, send_next, send, resend, resend_this, meet, learn, meet_at, receive_at, learn_at, step, run, can_send}
 use Rattle.ch_protocol.specs.Machine.How.{Take}
 use Rattle.ch_protocol.specs.Machine.Event.{Send, Resend, Up, Down, Back}
 use Rattle.ch_protocol.specs.Drain.{IsPast, repeat, resends, sends, take_turn, turns, empty_up, empty_down, empty_back, round}
 use Rattle.ch_protocol.proofs.Lists.{In-last, In-numbers_from}
 use Rattle.ch_protocol.proofs.Tests.{either_way, all_below-from, least-at}
+use Rattle.ch_protocol_laws.proofs.Meets.{meet_cases}
 use Rattle.ch_protocol_laws.proofs.Ways.{grows_up, grows_send, grows_resend, is_at, IsOnWay, IsTracked, IsReady, tracked_grows, tracked_counts, at_least, step_keeps, step_ready, up_pass, up_tracked, down_pass, down_tracked, back_pass, back_tracked}
 use Rattle.ch_protocol_laws.proofs.Ways.IsOnWay.{Acked, OnUp, OnDown, OnBack}
 
@@ -39,14 +40,8 @@ repeat_keeps c P Q f ready step zero s r q = (r, q)
 repeat_keeps c P Q f ready step (suc n) s r q = repeat_keeps c P Q f ready step n (f s) (ready s r) (step n s r q)
 
 -- a packet that meets the switch leaves the link upward as it is
-meet_up : (c : Config) (s : State) (x : Name) → (meet c s x).up ≡ s.up
-meet_up c s x = either_way (λ (t : State). t.up ≡ s.up) (nat_lt (s.expected x.pass x.worker) x.number) _ _ (λ t. refl)
-    (λ f. either_way (λ (t : State). t.up ≡ s.up) (nat_lt x.number (s.expected x.pass x.worker)) _ _ (λ t. refl)
-    (λ f. either_way (λ (t : State). t.up ≡ s.up) (eqb x.number (size c x.worker)) _ _ (λ t. refl) (λ f. other (verdict c s.epoch s.processed x))))
-  where
-    other : (b : Bool) → (process (expect_next s x) x b).up ≡ s.up
-    other true = refl
-    other false = refl
+pub meet_up : (c : Config) (s : State) (x : Name) → (meet c s x).up ≡ s.up
+meet_up c s x = meet_cases c (λ t. t.up ≡ s.up) s x (λ above. refl) (λ below. refl) (λ is end. refl) (λ is row v. refl) (λ is row v. refl)
 
 learn_links : (s : State) (a : Ack) → ((learn s a).up ≡ s.up) × ((learn s a).down ≡ s.down) × ((learn s a).back ≡ s.back)
 learn_links s a = either_way (λ (t : State). (t.up ≡ s.up) × (t.down ≡ s.down) × (t.back ≡ s.back)) (eqb a.name.pass s.pass && eqb a.epoch s.epoch) _ _ (λ t. (refl, refl, refl)) (λ f. (refl, refl, refl))

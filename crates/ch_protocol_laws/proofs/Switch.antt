@@ -1,15 +1,17 @@
 -- The invariant as a packet meets the switch.
-use Rattle.std.proofs.Common.{◌≡◌, ℕ, zero, suc, ◌<◌, ◌≤◌, min, Bool, true, false, ◌&&◌, eqb, nat_lt, List, ◌∷◌, map, Option, Some, refl, ap, sym, ◌∙◌, subst, arith, inl, inr, ◌⊎◌, eqb-true, eq-eqb, ltb-true, ltb-false, lt-ltb}
-use Rattle.std.proofs.lemmas.Bool.{cases_Bool, cases_eq, cases_lt, and_parts, and_from, false_from_ne_true, cond-true, cond-false}
+use Rattle.std.proofs.Common.{◌≡◌, ℕ, zero, suc, ◌<◌, ◌≤◌, min, Bool, true, false, ◌&&◌, eqb, nat_lt, List, ◌∷◌, map, Option, Some, refl, ap, sym, ◌∙◌, subst, arith, inl, inr, ◌⊎◌, eqb-true, eq-eqb, lt-ltb}
+use Rattle.std.proofs.lemmas.Bool.{cases_Bool, cases_eq, and_parts, and_from, false_from_ne_true, cond-true, cond-false}
 use Rattle.ch_lists.specs.Members.{Each}
 use Rattle.ch_protocol.specs.Sets.{set_at}
 use Rattle.ch_protocol.specs.Packets.{Name, same_name}
 use Rattle.ch_protocol.specs.Packets.Origin.{Switch}
-use Rattle.ch_protocol.specs.Machine.{Entry, Config, State, size, expect_next, verdict, entries_of, seen, note_entry, process, accept, meet}
+use Rattle.ch_protocol.specs.Forwarder.{expect_next}
+use Rattle.ch_protocol.specs.Machine.{Entry, Config, State, size, verdict, entries_of, seen, meet}
 use Rattle.ch_protocol.specs.Invariant.{IsKnown, AreNumbered, IsSettled, IsOnBack, IsProcessed, IsSound, IsNext, IsWhole, MayFollow, newest_number, mark_of}
 use Rattle.ch_protocol.proofs.Lists.{Each-push}
-use Rattle.ch_protocol.proofs.Tests.{set_at-same, set_at-other, either_way, same_name-true}
+use Rattle.ch_protocol.proofs.Tests.{set_at-same, set_at-other, same_name-true, same_name-from}
 use Rattle.ch_protocol_laws.proofs.Links.{go_down_sound, with_back}
+use Rattle.ch_protocol_laws.proofs.Meets.{meet_cases}
 
 -- the mark of another name stays
 pub mark-other : (y : Entry) (ys : List Entry) (x : Name) → (y.name ≡ x → ⊥) → mark_of (y ∷ ys) x ≡ mark_of ys x
@@ -20,10 +22,18 @@ pub kept_later : (c : Config) (epoch : ℕ) (before : List Entry) (x : Name) →
 kept_later c zero before x two t = refl
 kept_later c (suc epoch) before x two t = absurd (cc (sym (cond-true (c.two_passes && nat_lt 0 (suc epoch)) false (c.prunes (map (λ y. seen c y.name) (entries_of (suc epoch) before)) (seen c x)) (and_from c.two_passes (nat_lt 0 (suc epoch)) two (lt-ltb 0 (suc epoch) (omega arith)))) ∙ t))
 
+-- the next number of the flow is expected
+abbrev expecting : State → Name → State
+expecting s x = record s { expected = expect_next x.pass x.worker s.expected }
+
+-- the row is processed
+abbrev noting : State → Name → Bool → State
+noting s x pruned = record s { processed = record { name = x; epoch = s.epoch; pruned = pruned } ∷ s.processed }
+
 -- the packet x is the one that the switch expects
 module _ (c : Config) (s : State) (i : IsSound c s) (x : Name) (known : IsKnown c s.pass s.next x) (is : s.expected x.pass x.worker ≡ x.number) where
   abbrev expected' : ℕ → ℕ → ℕ
-  expected' = set_at x.pass (set_at x.worker (suc (s.expected x.pass x.worker)) (s.expected x.pass)) s.expected
+  expected' = expect_next x.pass x.worker s.expected
 
   at_pass : (q v : ℕ) → (q ≡ x.pass → ⊥) → expected' q v ≡ s.expected q v
   at_pass q v ne = ap (λ (f : ℕ → ℕ). f v) (set_at-other x.pass q (set_at x.worker (suc (s.expected x.pass x.worker)) (s.expected x.pass)) s.expected ne)
@@ -68,7 +78,7 @@ module _ (c : Config) (s : State) (i : IsSound c s) (x : Name) (known : IsKnown 
   }
 
   -- x is the Fin of its worker
-  pub end_sound : x.number ≡ size c x.worker → IsSound c (expect_next s x)
+  pub end_sound : x.number ≡ size c x.worker → IsSound c (expecting s x)
   end_sound end = record {
     in_range = i.in_range;
     settled = i.settled;
@@ -127,7 +137,7 @@ module _ (c : Config) (s : State) (i : IsSound c s) (x : Name) (known : IsKnown 
       first_epoch = λ kind t. kept_later c s.epoch s.processed x kind (sym by ∙ t);
     }
 
-    pub row_sound : IsSound c (note_entry (expect_next s x) x b)
+    pub row_sound : IsSound c (noting (expecting s x) x b)
     row_sound = record {
       in_range = i.in_range;
       up = i.up;
@@ -166,37 +176,23 @@ module _ (c : Config) (s : State) (i : IsSound c s) (x : Name) (known : IsKnown 
         each y (inl e) = subst (IsProcessed c s.pass s.epoch s.next expected') (sym e) (record { known = known; past = omega arith; below = λ p f. omega (arith, here s.pass x.worker (sym present) refl) })
         each y (inr h) = let g = i.entries y h in record { known = g.known; past = g.past; below = λ e f. omega (arith, g.below e f, more s.pass y.name.worker) }
 
-    pub below_next : x.number < expected' s.pass x.worker
-    below_next = omega (arith, here s.pass x.worker (sym present) refl)
-
-  below_end : x.number < expected' s.pass x.worker
+  pub below_end : x.number < expected' s.pass x.worker
   below_end = omega (arith, here s.pass x.worker (sym present) refl)
 
-  pub accept_sound : IsSound c (accept c (expect_next s x) x)
-  accept_sound = either_way (IsSound c) (eqb x.number (size c x.worker)) _ _
-      (λ end. go_down_sound c (expect_next s x) (end_sound (eqb-true x.number (size c x.worker) end)) x known (λ e. below_end))
-      (λ not_end. row (omega (arith, known.number, Rattle.std.proofs.lemmas.Bool.eqb-false x.number (size c x.worker) not_end)))
-    where
-      row : x.number < size c x.worker → IsSound c (process (expect_next s x) x (verdict c s.epoch s.processed x))
-      row lt = elim (cases_Bool (verdict c s.epoch s.processed x)) [
-        | inl t ↦ subst (λ (b : Bool). IsSound c (process (expect_next s x) x b)) (sym t)
-            (let after = row_sound true (sym t) lt in
-            with_back c (note_entry (expect_next s x) x true) after _ _ (Each-push (IsOnBack c s.pass s.epoch s.next expected' s.received (record { name = x; epoch = s.epoch; pruned = true } ∷ s.processed)) s.back (record { origin = Switch; name = x; epoch = s.epoch }) after.back
-            (record {
-              known = known;
-              past = omega arith;
-              below = λ e f. below_end;
-              master = λ e. absurd cc;
-              switch = λ e. inl refl;
-              settled = λ e f. inr (cond-true (same_name x x) (Some true) (mark_of s.processed x) (Rattle.ch_protocol.proofs.Tests.same_name-from x x refl));
-            })))
-        | inr f ↦ subst (λ (b : Bool). IsSound c (process (expect_next s x) x b)) (sym f)
-            (go_down_sound c (note_entry (expect_next s x) x false) (row_sound false (sym f) lt) x known (λ e. below_end))
-      ]
-
 pub meet_sound : (c : Config) (s : State) → IsSound c s → (x : Name) → IsKnown c s.pass s.next x → IsSound c (meet c s x)
-meet_sound c s i x known = either_way (IsSound c) (nat_lt (s.expected x.pass x.worker) x.number) _ _
+meet_sound c s i x known = meet_cases c (IsSound c) s x
     (λ above. i)
-    (λ not_above. either_way (IsSound c) (nat_lt x.number (s.expected x.pass x.worker)) _ _
-    (λ below. go_down_sound c s i x known (λ e. omega (arith, ltb-true x.number (s.expected x.pass x.worker) below, ap (λ q. s.expected q x.worker) e)))
-    (λ not_below. accept_sound c s i x known (omega (arith, ltb-false (s.expected x.pass x.worker) x.number not_above, ltb-false x.number (s.expected x.pass x.worker) not_below))))
+    (λ below. go_down_sound c s i x known (λ e. omega (arith, below, ap (λ q. s.expected q x.worker) e)))
+    (λ is end. go_down_sound c (expecting s x) (end_sound c s i x known is end) x known (λ e. below_end c s i x known is))
+    (λ is row v.
+    let after = row_sound c s i x known is true (sym v) (omega (arith, known.number, row)) in
+    with_back c (noting (expecting s x) x true) after _ _ (Each-push (IsOnBack c s.pass s.epoch s.next (expecting s x).expected s.received (record { name = x; epoch = s.epoch; pruned = true } ∷ s.processed)) s.back (record { origin = Switch; name = x; epoch = s.epoch }) after.back
+    (record {
+      known = known;
+      past = omega arith;
+      below = λ e f. below_end c s i x known is;
+      master = λ e. absurd cc;
+      switch = λ e. inl refl;
+      settled = λ e f. inr (cond-true (same_name x x) (Some true) (mark_of s.processed x) (same_name-from x x refl));
+    })))
+    (λ is row v. go_down_sound c (noting (expecting s x) x false) (row_sound c s i x known is false (sym v) (omega (arith, known.number, row))) x known (λ e. below_end c s i x known is))

@@ -7,7 +7,7 @@ use Rattle.ch_protocol.specs.Sets.{set_at}
 use Rattle.ch_protocol.specs.Packets.{Origin, Name, Packet, Ack}
 use Rattle.ch_protocol.specs.Packets.Origin.{Switch, Master}
 use Rattle.ch_protocol.specs.Sender.{open_numbers}
-use Rattle.ch_protocol.specs.Machine.{can_send, Config, State, Event, size, workers, passes, confirmed, stopped, go_up, send_next, send, resend, resend_this, go_down, expect_next, verdict, process, accept, meet, receive, learn, meet_at, receive_at, learn_at, effect, step, count_step, begin_pass}
+use Rattle.ch_protocol.specs.Machine.{can_send, Config, State, Event, size, workers, passes, confirmed, stopped, go_up, send_next, send, resend, resend_this, go_down, prune, Entry, meet, receive, learn, meet_at, receive_at, learn_at, effect, step, count_step, begin_pass}
 use Rattle.ch_protocol.specs.Machine.How.{Take}
 use Rattle.ch_protocol.specs.Drain.{IsPast}
 use Rattle.ch_protocol.specs.Invariant.{IsSound}
@@ -16,6 +16,7 @@ use Rattle.ch_protocol.proofs.Tests.{either_way, all_below-at, set_at-same}
 use Rattle.ch_protocol_laws.proofs.Sound.{step_sound}
 use Rattle.ch_protocol_laws.proofs.Acks.{still}
 use Rattle.ch_protocol_laws.proofs.Links.{without_back}
+use Rattle.ch_protocol_laws.proofs.Meets.{meet_cases}
 
 -- nothing is taken back, and nothing leaves a link
 pub record Grows (s t : State) : Type 0 where
@@ -50,19 +51,15 @@ grows_resend c s w i = either_way (Grows s) (nat_lt w (workers c)) _ _ (λ t. gr
 pub grows_down : (s : State) (x : Name) → Grows s (go_down s x)
 grows_down s x = record { pass = refl; epoch = refl; acked = λ w k h. h; up = λ m h. h; down = λ m h. In-left m s.down _ h; back = λ a h. h }
 
-pub grows_accept : (c : Config) (s : State) (x : Name) → Grows s (accept c (expect_next s x) x)
-grows_accept c s x = either_way (Grows s) (eqb x.number (size c x.worker)) _ _ (λ t. down) (λ f. other (verdict c s.epoch s.processed x))
+pub grows_meet : (c : Config) (s : State) (x : Name) → Grows s (meet c s x)
+grows_meet c s x = meet_cases c (Grows s) s x (λ above. grows_same s) (λ below. grows_down s x) (λ is end. down) (λ is row v. back) (λ is row v. down)
   where
-    down : Grows s (go_down (expect_next s x) x)
+    -- what is expected and processed is no part of it
+    down : {e : ℕ → ℕ → ℕ} {ps : List Entry} → Grows s (go_down (record s { expected = e; processed = ps }) x)
     down = record { pass = refl; epoch = refl; acked = λ w k h. h; up = λ m h. h; down = λ m h. In-left m s.down _ h; back = λ a h. h }
 
-    other : (b : Bool) → Grows s (process (expect_next s x) x b)
-    other true = record { pass = refl; epoch = refl; acked = λ w k h. h; up = λ m h. h; down = λ m h. h; back = λ a h. In-left a s.back _ h }
-    other false = record { pass = refl; epoch = refl; acked = λ w k h. h; up = λ m h. h; down = λ m h. In-left m s.down _ h; back = λ a h. h }
-
-pub grows_meet : (c : Config) (s : State) (x : Name) → Grows s (meet c s x)
-grows_meet c s x = either_way (Grows s) (nat_lt (s.expected x.pass x.worker) x.number) _ _ (λ t. grows_same s)
-    (λ f. either_way (Grows s) (nat_lt x.number (s.expected x.pass x.worker)) _ _ (λ t. grows_down s x) (λ f. grows_accept c s x))
+    back : {e : ℕ → ℕ → ℕ} {ps : List Entry} → Grows s (prune (record s { expected = e; processed = ps }) x)
+    back = record { pass = refl; epoch = refl; acked = λ w k h. h; up = λ m h. h; down = λ m h. h; back = λ a h. In-left a s.back _ h }
 
 pub grows_receive : (s : State) (m : Packet) → Grows s (receive s m)
 grows_receive s m = record { pass = refl; epoch = refl; acked = λ w k h. h; up = λ m h. h; down = λ m h. h; back = λ a h. In-left a s.back _ h }
@@ -90,17 +87,12 @@ way_grows s t w k g (OnBack b h) = OnBack b (subst (λ (p : ℕ). In (record { o
 
 -- a packet that isn't above the expected number goes down, or an acknowledgement goes back
 pub meet_way : (c : Config) (s : State) (w k : ℕ) → k ≤ s.expected s.pass w → IsOnWay (meet c s (is_at s.pass w k)) w k
-meet_way c s w k le = either_way (λ t. IsOnWay t w k) (nat_lt (s.expected s.pass w) k) _ _
-    (λ above. absurd (omega (arith, ltb-true (s.expected s.pass w) k above)))
-    (λ f. either_way (λ t. IsOnWay t w k) (nat_lt k (s.expected s.pass w)) _ _
+meet_way c s w k le = meet_cases c (λ t. IsOnWay t w k) s (is_at s.pass w k)
+    (λ above. absurd (omega (arith, above)))
     (λ below. OnDown (In-last _ s.down))
-    (λ f. either_way (λ t. IsOnWay t w k) (eqb k (size c w)) _ _
-    (λ end. OnDown (In-last _ s.down))
-    (λ row. other (verdict c s.epoch s.processed (is_at s.pass w k)))))
-  where
-    other : (b : Bool) → IsOnWay (process (expect_next s (is_at s.pass w k)) (is_at s.pass w k) b) w k
-    other true = OnBack Switch (In-last _ s.back)
-    other false = OnDown (In-last _ s.down)
+    (λ is end. OnDown (In-last _ s.down))
+    (λ is row v. OnBack Switch (In-last _ s.back))
+    (λ is row v. OnDown (In-last _ s.down))
 
 pub learn_way : (s : State) (w k : ℕ) (b : Origin) → IsOnWay (learn s (record { origin = b; name = is_at s.pass w k; epoch = s.epoch })) w k
 learn_way s w k b = either_way (λ t. IsOnWay t w k) (eqb s.pass s.pass && eqb s.epoch s.epoch) _ _

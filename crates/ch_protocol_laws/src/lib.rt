@@ -4,16 +4,18 @@
 //! start.
 #![tactic(auto)]
 
-ghost use Rattle.std.specs.Prelude.{◌≡◌, ◌≢◌, ◌⊎◌, ◌<◌, ◌≤◌, ℕ, Bool, true, false, List, []};
+ghost use Rattle.std.specs.Prelude.{◌≡◌, ◌≢◌, ◌⊎◌, ◌<◌, ◌≤◌, ℕ, Bool, true, false, List, [], ◌++◌, IsPermutation};
+ghost use Rattle.ch_lists.specs.Members.{Each, AreDifferent};
 ghost use Rattle.ch_protocol.specs.Sender.{least_open};
-ghost use Rattle.ch_protocol.specs.Machine.{Config, State, Event, IsReached, start, step, stopped, passes, size, workers, can_send};
+ghost use Rattle.ch_protocol.specs.Machine.{Config, State, Event, IsReached, start, step, run, stopped, passes, size, workers, can_send};
 ghost use Rattle.ch_protocol.specs.Drain.{IsPast, repeat, take_turn, round, most_rounds, drain};
+ghost use Rattle.ch_protocol.specs.DrainEvents.{drain_events, AreMade};
 ghost use Rattle.ch_protocol.specs.Outcome.{outcome, report, after_schedule};
 ghost use Rattle.ch_protocol.specs.Outcome.Outcome.{Done};
 ghost use Rattle.ch_cover.specs.Rows.{AreRows, Row};
 ghost use Rattle.ch_cover.specs.Cover.{CoversOnce, CoversTwice};
 ghost use Rattle.ch_cover.specs.Samples.{is_gated, greatest, below_greatest, how_many, by_bit, keys, but_first_of_key};
-ghost use Rattle.ch_protocol.specs.Received.{all_rows, rows_received};
+ghost use Rattle.ch_protocol.specs.Received.{all_rows, rows_received, names_arrived, rows_arrived};
 ghost use Rattle.ch_protocol.specs.Invariant.{IsSound};
 ghost use Rattle.ch_protocol_laws.specs.Always.{AreLinksKnown, IsNoEpochAbove, AreProcessedInOrder, EndBelowExpected, AreExactlyBelowExpected, IsHistoryOrdered, AreVerdictsGiven, IsFirstPassWhole, AreOtherPassesExpected, IsExpectedSent, AreReceivedOnce, IsDownBelowExpected, AreAcksTrue, AreAckedSettled, IsPrunedInFirstEpoch, IsFinLast};
 ghost use Rattle.ch_protocol_laws.specs.Settled.{AreAllSettled, AreMissingPruned, AreKeptReceived};
@@ -39,6 +41,7 @@ pub fn always_on_links()
     ensures down_below_expected { (c : Config) (s : State) → IsReached c s → IsDownBelowExpected s }
     ensures acks_true { (c : Config) (s : State) → IsReached c s → AreAcksTrue s }
 
+    ensures pass_in_range { (c : Config) (s : State) → IsReached c s → (1 ≤ s.pass) × (s.pass ≤ passes c) }
     ensures other_passes_expected { (c : Config) (s : State) → IsReached c s → AreOtherPassesExpected c s }
     ensures expected_sent { (c : Config) (s : State) → IsReached c s → IsExpectedSent c s }
     ensures fin_last { (c : Config) (s : State) → IsReached c s → IsFinLast c s }
@@ -65,18 +68,34 @@ pub fn settled()
     ensures kept_received { (c : Config) (s : State) → c.two_passes ≡ true → IsReached c s → stopped c s ≡ true → AreKeptReceived c s }
 {}
 
-/// In a kind with one pass the answer over what the master received is that over all rows, once the run has stopped.
+/// In a kind with one pass the answer over what the master received is that over all rows, once the run has stopped; in
+/// whichever order the rows are taken, also in that in which they came.
 pub fn one_pass<A>()
-    ensures { (c : Config) (is_row : Row → Bool) (answer : List Row → A) (s : State) → c.two_passes ≡ false → CoversOnce is_row c.prunes answer → AreRows is_row (all_rows c)
+    ensures received { (c : Config) (is_row : Row → Bool) (answer : List Row → A) (s : State) → c.two_passes ≡ false → CoversOnce is_row c.prunes answer → AreRows is_row (all_rows c)
         → IsReached c s → stopped c s ≡ true
         → answer (rows_received c (passes c) s.received) ≡ answer (all_rows c) }
+    ensures arrived { (c : Config) (is_row : Row → Bool) (answer : List Row → A) (s : State) → c.two_passes ≡ false → CoversOnce is_row c.prunes answer → AreRows is_row (all_rows c)
+        → IsReached c s → stopped c s ≡ true
+        → answer (rows_arrived c (passes c) s.received) ≡ answer (all_rows c) }
 {}
 
 /// The same in a kind with two passes.
 pub fn two_passes<A>()
-    ensures { (c : Config) (is_row : Row → Bool) (answer : List Row → A) (s : State) → c.two_passes ≡ true → CoversTwice is_row c.prunes answer → AreRows is_row (all_rows c)
+    ensures received { (c : Config) (is_row : Row → Bool) (answer : List Row → A) (s : State) → c.two_passes ≡ true → CoversTwice is_row c.prunes answer → AreRows is_row (all_rows c)
         → IsReached c s → stopped c s ≡ true
         → answer (rows_received c (passes c) s.received) ≡ answer (all_rows c) }
+    ensures arrived { (c : Config) (is_row : Row → Bool) (answer : List Row → A) (s : State) → c.two_passes ≡ true → CoversTwice is_row c.prunes answer → AreRows is_row (all_rows c)
+        → IsReached c s → stopped c s ≡ true
+        → answer (rows_arrived c (passes c) s.received) ≡ answer (all_rows c) }
+{}
+
+/// What the master received in a pass, in every reached state: each row once and rows of the workers alone, and in the
+/// order in which they came the same rows.
+pub fn received_in_order()
+    ensures different { (c : Config) (s : State) (pass : ℕ) → IsReached c s → AreDifferent (names_arrived c pass s.received) }
+    ensures rows { (c : Config) (s : State) (pass : ℕ) → IsReached c s → Each (λ x. (x.pass ≡ pass) × (x.worker < workers c) × (x.number < size c x.worker)) (names_arrived c pass s.received) }
+    ensures test { (c : Config) (s : State) (is_row : Row → Bool) (pass : ℕ) → IsReached c s → AreRows is_row (all_rows c) → AreRows is_row (rows_arrived c pass s.received) }
+    ensures same { (c : Config) (s : State) (pass : ℕ) → IsPermutation (rows_received c pass s.received) (rows_arrived c pass s.received) }
 {}
 
 /// From every reached state each pass is over after so many rounds, and drain stops the run, where there is a worker and
@@ -92,6 +111,14 @@ pub fn drains()
     // a turn's sends end where a send would put nothing on the link, and a round of a run that has stopped does nothing
     ensures turn { (c : Config) (s : State) (w : ℕ) → 0 < workers c → 1 ≤ c.window → w < workers c → IsReached c s → can_send c (take_turn c w s) w ≡ false }
     ensures stopped { (c : Config) (s : State) → stopped c s ≡ true → round c s ≡ s }
+{}
+
+/// Drain is the run of a list of events, each of which does something, and none of which comes after the stop. So a
+/// schedule with its drain is a list of events.
+pub fn drain_is_events()
+    ensures same { (c : Config) (s : State) → run c (drain_events c s) s ≡ drain c s }
+    ensures made { (c : Config) (s : State) → 0 < workers c → 1 ≤ c.window → IsReached c s → AreMade c (drain_events c s) s }
+    ensures schedule { (c : Config) (events : List Event) → after_schedule c events true ≡ run c (events ++ drain_events c (run c events (start c))) (start c) }
 {}
 
 /// A schedule leads to a reached state. One that ends in drain is done, and a run that hasn't stopped names a worker that

@@ -11,6 +11,10 @@ use Rattle.ch_protocol.specs.Machine.How.{Take, Keep, Lose}
 use Rattle.ch_protocol.specs.Machine.Event.{Send, Resend, Up, Down, Back, Inject, Restart}
 use Rattle.ch_protocol.specs.Outcome.{OpenFlow, Outcome, outcome, after_schedule}
 use Rattle.ch_protocol.specs.Outcome.Outcome.{Done, Open}
+use Rattle.ch_protocol.specs.Fates.{fates}
+use Rattle.ch_protocol.specs.DrainEvents.{drain_events}
+use Rattle.ch_protocol.specs.Received.{names_arrived}
+use Rattle.ch_protocol.specs.declared.fate.NoteFate.TheVariants.{Nothing, Sent, Dropped, Pruned, Forwarded, Passed, New, Old, Taken, Ignored, Lost, Injected, Restarted}
 
 -- rows, sends, pruned, forwarded, steps
 abbrev pub counted : ℕ → ℕ → ℕ → ℕ → ℕ → Counts
@@ -307,3 +311,30 @@ abbrev pub NothingAfterTheEnd : Type 0
 NothingAfterTheEnd = Comes no_rows
     (step no_rows (after_schedule no_rows (Send 0 ∷ Up 0 Take ∷ Down 0 Take ∷ Back 0 Take ∷ []) false) Restart)
     (Done (counted 0 1 0 1 4)) (counted 0 1 0 1 4) (1 ∷ []) (at 1 0 0 ∷ [])
+
+-- Events
+
+-- a schedule with every fate: number 1 comes before number 0 and stays on the link, and then what follows repeats,
+-- restarts and comes to nothing
+abbrev pub EveryFate : Type 0
+EveryFate = fates three_numbers
+    (Send 0 ∷ Send 0 ∷ Up 1 Keep ∷ Up 0 Take ∷ Up 0 Keep ∷ Up 0 Take ∷ Up 0 Take ∷ Down 0 Keep ∷ Down 1 Take ∷ Down 0 Lose ∷ Back 0 Keep ∷ Restart ∷ Back 0 Take ∷ Inject ∷ Resend 0 0 ∷ Resend 0 1 ∷ Send 1 ∷ [])
+    (start three_numbers)
+    ≡ Sent ∷ Sent ∷ Dropped ∷ Pruned ∷ Forwarded ∷ Passed ∷ Nothing ∷ New ∷ Old ∷ Lost ∷ Taken ∷ Restarted ∷ Ignored ∷ Injected ∷ Sent ∷ Nothing ∷ Nothing ∷ []
+
+-- the events of two rounds
+abbrev pub EventsOfDrain : Type 0
+EventsOfDrain = drain_events three_numbers (start three_numbers)
+    ≡ replicate 3 (Send 0) ++ replicate 3 (Up 0 Take) ++ replicate 2 (Down 0 Take) ++ replicate 3 (Back 0 Take)
+    ++ Send 0 ∷ Up 0 Take ∷ Down 0 Take ∷ Back 0 Take ∷ []
+
+-- in a turn the resends come first
+abbrev pub ResendsOfDrain : Type 0
+ResendsOfDrain = drain_events three_numbers (after_schedule three_numbers (Send 0 ∷ Send 0 ∷ Up 1 Take ∷ Up 0 Take ∷ []) false)
+    ≡ Resend 0 0 ∷ Resend 0 1 ∷ Send 0 ∷ replicate 3 (Up 0 Take) ++ replicate 3 (Down 0 Take) ++ replicate 4 (Back 0 Take)
+    ++ Send 0 ∷ Up 0 Take ∷ Down 0 Take ∷ Back 0 Take ∷ []
+
+-- the rows in the order in which they came, without the Fin: number 1 came before number 0, which had been sent on first
+abbrev pub RowsInOrder : Type 0
+RowsInOrder = names_arrived two_nines 1 (after_schedule two_nines (Send 0 ∷ Send 0 ∷ Up 0 Take ∷ Up 0 Take ∷ Down 1 Take ∷ []) true).received
+    ≡ at 1 0 1 ∷ at 1 0 0 ∷ []

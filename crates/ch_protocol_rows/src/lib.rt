@@ -4,7 +4,7 @@
 //! outcome, its counts, the acknowledged numbers and the received names.
 #![tactic(auto)]
 
-ghost use Rattle.ch_protocol_rows.specs.Rows.{FilterEndToEnd, EmptyPart, TwoParts, ReorderedBeforeTheSwitch, OpenRun, OpenRunReceived, Repeats, RepeatsOfAKey, OneCachedKey, LostFourTimes, LostThenDrained, KeptAtItsPlace, InjectedByte, WindowOfOne, FinWaits, WindowFromTheLeast, NothingThere, OldAckAfterARestart, OldPacketAfterARestart, CutAtARestart, BeforeTheCut, ExpectedAfterARestart, ExpectedFromTheLeast, PrunedInTheNewEpoch, FinInTheNewEpoch, PassedInTheNewEpoch, RestartInPass2, SumOnOneCell, LostAckInPass1, LostAckInPass2, RestartBeforeTwoPasses, OldAckInPass2, Join, SemiJoin, CountAtItsEnd, StepsAtTheirEnd, NothingAfterTheEnd};
+ghost use Rattle.ch_protocol_rows.specs.Rows.{FilterEndToEnd, EmptyPart, TwoParts, ReorderedBeforeTheSwitch, OpenRun, OpenRunReceived, Repeats, RepeatsOfAKey, OneCachedKey, LostFourTimes, LostThenDrained, KeptAtItsPlace, InjectedByte, WindowOfOne, FinWaits, WindowFromTheLeast, NothingThere, OldAckAfterARestart, OldPacketAfterARestart, CutAtARestart, BeforeTheCut, ExpectedAfterARestart, ExpectedFromTheLeast, PrunedInTheNewEpoch, FinInTheNewEpoch, PassedInTheNewEpoch, RestartInPass2, SumOnOneCell, LostAckInPass1, LostAckInPass2, RestartBeforeTwoPasses, OldAckInPass2, Join, SemiJoin, CountAtItsEnd, StepsAtTheirEnd, NothingAfterTheEnd, EveryFate, EventsOfDrain, ResendsOfDrain, RowsInOrder};
 
 /// One pass: loss, repeats and reordering.
 pub fn worked_in_one_pass()
@@ -61,4 +61,12 @@ pub fn worked_on_counts()
     ensures count_at_its_end { CountAtItsEnd }
     ensures steps_at_their_end { StepsAtTheirEnd }
     ensures nothing_after_the_end { NothingAfterTheEnd }
+{}
+
+/// The fates of events, drain as a list of them, and what the master received in order.
+pub fn worked_on_events()
+    ensures every_fate { EveryFate }
+    ensures events_of_drain { EventsOfDrain }
+    ensures resends_of_drain { ResendsOfDrain }
+    ensures rows_in_order { RowsInOrder }
 {}

@@ -14,6 +14,9 @@ returns-clause-down_below_expected _ c s r = down_below_expected c s (reached_so
 pub returns-clause-acks_true : goal.returns-clause-acks_true
 returns-clause-acks_true _ c s r = acks_true c s (reached_sound c s r)
 
+pub returns-clause-pass_in_range : goal.returns-clause-pass_in_range
+returns-clause-pass_in_range _ c s r = (reached_sound c s r).in_range
+
 pub returns-clause-other_passes_expected : goal.returns-clause-other_passes_expected
 returns-clause-other_passes_expected _ c s r = other_passes_expected c s (reached_sound c s r)
 
