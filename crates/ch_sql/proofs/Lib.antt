@@ -1,5 +1,2 @@
-pub mod Inner
-pub mod Leading
 pub mod Results
-pub mod Stepping
 mod RoundTrip

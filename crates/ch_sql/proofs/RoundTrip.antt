@@ -1,10 +1,9 @@
 -- Reading the text of a query gives the query again.
-use Rattle.std.proofs.Common.{◌≡◌, ℕ, List, [], ◌∷◌, Ok}
+use Rattle.std.proofs.Common.{◌≡◌, List, Ok}
 use Rattle.std.specs.List.{All}
-use Rattle.std.proofs.lemmas.List.Elements.{All-cons, All-nil}
 use Rattle.ch_sql_tokens.specs.declared.token.Token.{Token}
 use Rattle.ch_sql_tokens.specs.Spelling.{IsToken}
-use Rattle.ch_sql_tokens.specs.Lexed.{IsQueryText, Reads}
+use Rattle.ch_sql_tokens.specs.Lexed.{IsQueryText}
 use Rattle.ch_sql_grammar.specs.Tree.{Select}
 use Rattle.ch_sql_places.specs.Machine.{parse_from, start}
 use Rattle.ch_sql_limits.proofs.Within.{read_within, within_read}
@@ -13,10 +12,6 @@ use Rattle.ch_sql_text.specs.Printed.{query_text}
 use Rattle.ch_sql_text.proofs.Reread.{read_again}
 use Rattle.ch_sql.specs.Parsed.{seen}
 use Rattle.ch_sql.specs.RoundTrip.{ReadsAgain}
-
-pub are_tokens : (text : List ℕ) (tokens : List Token) (rest : List ℕ) → Reads text tokens rest → All IsToken tokens
-are_tokens text [] rest reads = All-nil IsToken
-are_tokens text (t ∷ ts) rest (blanks, here, more, are, whole, longest, others) = All-cons IsToken t ts longest.here.is_token (are_tokens more ts rest others)
 
 pub reads_again : (tokens : List Token) (q : Select) → All IsToken tokens → parse_from start 0 (seen tokens) ≡ Ok q
     → IsQueryText (query_text q) → (again : List Token) × ReadsAgain q again

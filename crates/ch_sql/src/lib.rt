@@ -2,8 +2,6 @@
 //! and its types.
 #![tactic(auto)]
 
-mod behind;
-mod heads;
 mod laws;
 mod parser;
 
@@ -12,9 +10,6 @@ pub use ch_sql_grammar::{
     Agg, ColumnRef, Having, Item, ParseError, Pred, Query, Side, SkyDim, Source, Tail,
 };
 pub use ch_sql_text::print;
-pub use ch_sql_tokens::{LexError, Symbol, Token, lex};
-pub use laws::{lexed_tokens_are_tokens, printed_queries_are_read_again};
+pub use ch_sql_tokens::{LexError, Symbol, Token, lex, lexed_tokens_are_tokens};
+pub use laws::printed_queries_are_read_again;
 pub use parser::parse;
-
-#[cfg(test)]
-mod tests;

@@ -10,6 +10,7 @@ use Rattle.ch_sql_grammar.specs.declared.query.Pred.TheOpen as layer
 use Rattle.ch_sql_grammar.specs.declared.query.Pred.TheFolds.{fold-Pred}
 use Rattle.ch_sql_grammar.specs.declared.query.Item.{Item}
 use Rattle.ch_sql_grammar.specs.declared.query.Source.{Source}
+use Rattle.ch_sql_grammar.specs.declared.query.Source.TheVariants as source
 use Rattle.ch_sql_grammar.specs.declared.query.Tail.{Tail}
 use Rattle.ch_sql_grammar.specs.declared.query.Query.{Query}
 
@@ -18,6 +19,11 @@ bare_col n = record { table = None; name = n }
 
 abbrev pub col_of : List ℕ → List ℕ → ColumnRef
 col_of t n = record { table = Some t; name = n }
+
+-- the table, where there is one alone
+abbrev pub one_table : Source → Option (List ℕ)
+one_table (source.One table) = Some table
+one_table s = None
 
 mutual
   pub data Plain : Type 0 where

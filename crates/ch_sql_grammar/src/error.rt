@@ -3,7 +3,7 @@ use std::alloc::{AllocError, AllocFailed};
 use thiserror::Error;
 
 /// Why tokens are no query. Places count tokens from 0.
-#[derive(Debug, Drop, Error)]
+#[derive(Clone, Copy, Debug, PartialEq, Eq, Error)]
 pub enum ParseError {
     #[error("the tokens are no query from token {at} on")]
     Syntax { at: usize },

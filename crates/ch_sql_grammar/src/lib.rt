@@ -4,6 +4,7 @@
 mod error;
 mod head;
 mod keyword;
+mod limits;
 mod query;
 mod tail;
 mod tok;
@@ -11,6 +12,7 @@ mod tok;
 pub use error::ParseError;
 pub use head::{Head, HeadPlace, HeadStep, HeadTaker};
 pub use keyword::keyword_in;
+pub use limits::{MAX_DEPTH, MAX_LITERALS};
 pub use query::{Agg, ColumnRef, Having, Item, Pred, Query, Side, SkyDim, Source, Tail};
 pub use tail::{TailPlace, TailTaker};
 pub use tok::{Mark, Tok, is_mark, name_of, toks_of};

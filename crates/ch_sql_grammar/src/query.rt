@@ -1,3 +1,6 @@
+ghost use Rattle.std.specs.Prelude.{◌≡◌};
+ghost use Rattle.ch_sql_grammar.specs.Tree.{one_table};
+
 use ch_cells::{Bytes, Listed};
 use ch_pred::{Cmp, Literal};
 
@@ -59,7 +62,7 @@ pub enum Item {
 }
 
 /// Where a query's rows come from.
-#[derive(Debug, Drop)]
+#[derive(Debug)]
 pub enum Source {
     One(Bytes),
     Join {
@@ -75,6 +78,41 @@ pub enum Source {
         key: ColumnRef,
         inner_key: ColumnRef,
     },
+}
+
+impl Drop for Source {
+    fn drop(self) {
+        match self {
+            Source::One(_) => {}
+            Source::Join {
+                left: _,
+                right: _,
+                first_on: _,
+                second_on: _,
+            } => {}
+            Source::Semi {
+                outer: _,
+                inner: _,
+                key: _,
+                inner_key: _,
+            } => {}
+        }
+    }
+}
+
+impl Source {
+    /// The table, where there is one alone.
+    pub fn into_one(self) -> Option<Bytes>
+        ensures { result ≡ one_table self }
+    {
+        match self {
+            Source::One(table) => Some(table),
+            other => {
+                drop(other);
+                None
+            }
+        }
+    }
 }
 
 #[derive(Debug, Drop)]

@@ -4,40 +4,44 @@ use ch_cells::Bytes;
 use ch_sql_tokens::{Symbol, Token};
 use std::test::Fail;
 
+/// Each keyword, in two ways.
+const KEYWORDS: &[(&str, &str, Mark)] = &[
+    ("SELECT", "sELECT", Mark::Select),
+    ("DISTINCT", "distinct", Mark::Distinct),
+    ("FROM", "From", Mark::From),
+    ("JOIN", "join", Mark::Join),
+    ("ON", "oN", Mark::On),
+    ("WHERE", "where", Mark::Where),
+    ("ORDER", "Order", Mark::Order),
+    ("BY", "by", Mark::By),
+    ("ASC", "asc", Mark::Asc),
+    ("DESC", "DeSc", Mark::Desc),
+    ("LIMIT", "limit", Mark::Limit),
+    ("GROUP", "group", Mark::Group),
+    ("HAVING", "having", Mark::Having),
+    ("SUM", "sum", Mark::Sum),
+    ("COUNT", "count", Mark::Count),
+    ("SKYLINE", "skyline", Mark::Skyline),
+    ("OF", "of", Mark::Of),
+    ("MAX", "max", Mark::Max),
+    ("MIN", "min", Mark::Min),
+    ("AND", "and", Mark::And),
+    ("OR", "or", Mark::Or),
+    ("NOT", "not", Mark::Not),
+    ("BETWEEN", "between", Mark::Between),
+    ("IN", "in", Mark::In),
+    ("LIKE", "like", Mark::Like),
+];
+
+const NAMES: &[&str] = &["", "selects", "i", "_in", "l1ke"];
+
 #[test]
 fn knows_each_keyword_in_any_case(rt: HostRuntime) {
-    let table = [
-        ("SELECT", "sELECT", Mark::Select),
-        ("DISTINCT", "distinct", Mark::Distinct),
-        ("FROM", "From", Mark::From),
-        ("JOIN", "join", Mark::Join),
-        ("ON", "oN", Mark::On),
-        ("WHERE", "where", Mark::Where),
-        ("ORDER", "Order", Mark::Order),
-        ("BY", "by", Mark::By),
-        ("ASC", "asc", Mark::Asc),
-        ("DESC", "DeSc", Mark::Desc),
-        ("LIMIT", "limit", Mark::Limit),
-        ("GROUP", "group", Mark::Group),
-        ("HAVING", "having", Mark::Having),
-        ("SUM", "sum", Mark::Sum),
-        ("COUNT", "count", Mark::Count),
-        ("SKYLINE", "skyline", Mark::Skyline),
-        ("OF", "of", Mark::Of),
-        ("MAX", "max", Mark::Max),
-        ("MIN", "min", Mark::Min),
-        ("AND", "and", Mark::And),
-        ("OR", "or", Mark::Or),
-        ("NOT", "not", Mark::Not),
-        ("BETWEEN", "between", Mark::Between),
-        ("IN", "in", Mark::In),
-        ("LIKE", "like", Mark::Like),
-    ];
-    for (upper, other, mark) in table {
-        assert!(rt; keyword_in(upper.as_bytes()) == Some(mark), "{upper}");
-        assert!(rt; keyword_in(other.as_bytes()) == Some(mark), "{other}");
+    for (upper, other, mark) in KEYWORDS {
+        assert!(rt; keyword_in(upper.as_bytes()) == Some(*mark), "{upper}");
+        assert!(rt; keyword_in(other.as_bytes()) == Some(*mark), "{other}");
     }
-    for word in ["", "selects", "i", "_in", "l1ke"] {
+    for word in NAMES {
         assert!(rt; keyword_in(word.as_bytes()).is_none(), "{word}");
     }
 }

@@ -1,5 +1,6 @@
 -- The derivations within the limits.
 use Rattle.std.specs.Prelude.{ℕ, ◌+◌, ◌≤◌, ◌≡◌, max, true, List, [], ◌∷◌, ◌++◌, length, ◌⊎◌, Option, Some, None}
+use Rattle.ch_sql_grammar.specs.declared.limits.TheConstants.{MAX_DEPTH, MAX_LITERALS}
 use Rattle.ch_sql_grammar.specs.declared.tok.Mark.TheVariants as mark
 use Rattle.ch_sql_grammar.specs.declared.tok.Tok.{Tok}
 use Rattle.ch_sql_grammar.specs.declared.tok.Tok.TheVariants as tok
@@ -27,7 +28,7 @@ abbrev mutual
 abbrev pub AtomFits : grammar.Atom → Type 0
 AtomFits (grammar.compare col c s) = Unit {0}
 AtomFits (grammar.between col low high) = Unit {0}
-AtomFits (grammar.within col front last) = length (front ++ (last ∷ [])) ≤ 16
+AtomFits (grammar.within col front last) = length (front ++ (last ∷ [])) ≤ MAX_LITERALS
 AtomFits (grammar.like col text) = is_prefix text ≡ true
 
 -- each atom fits
@@ -47,10 +48,10 @@ abbrev mutual
 
 -- at most 32 NOT and parentheses inside each other
 abbrev pub PredFits : Pred → Type 0
-PredFits p = (pred_depth p ≤ 32) × PredAtomsFit p
+PredFits p = (pred_depth p ≤ MAX_DEPTH) × PredAtomsFit p
 
 abbrev pub ConjFits : Conj → Type 0
-ConjFits c = (conj_depth c ≤ 32) × ConjAtomsFit c
+ConjFits c = (conj_depth c ≤ MAX_DEPTH) × ConjAtomsFit c
 
 abbrev pub FilterFits : Option Pred → Type 0
 FilterFits None = Unit {0}

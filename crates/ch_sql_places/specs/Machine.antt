@@ -1,6 +1,7 @@
 -- The places that a list of tokens comes to, and where a token leads from there.
 use Rattle.std.specs.Prelude.{ℕ, ◌+◌, ◌==◌, Bool, true, false, ◌||◌, not, nat_lt, List, [], ◌∷◌, ◌++◌, length, take, Option, Some, None, option_map, option_and_then, ◌&&◌, ◌-◌, Result, Ok, Err, if◌then◌else◌, slice_index_or}
 use Rattle.std.specs.List.{list_all}
+use Rattle.ch_sql_grammar.specs.declared.limits.TheConstants.{MAX_DEPTH, MAX_LITERALS}
 use Rattle.ch_sql_grammar.specs.declared.tok.Mark.TheVariants as mark
 use Rattle.ch_sql_grammar.specs.declared.tok.Tok.{Tok}
 use Rattle.ch_sql_grammar.specs.declared.query.ColumnRef.{ColumnRef}
@@ -227,8 +228,8 @@ is_prefix s = if nat_lt 0 (length s) then list_all (λ b. not (b == 37) && not (
 -- what refuses a token that the grammar takes
 abbrev pub limit : Place → ℕ → Tok → Option ParseError
 limit (Want around) at t =
-    if (has_mark mark.Not t || has_mark mark.LeftParen t) && not (nat_lt (depth_of around) 32) then Some (error.TooDeep at) else None
-limit (Listed around col literals) at t = if nat_lt (length literals) 16 then None else Some (error.InTooLong at)
+    if (has_mark mark.Not t || has_mark mark.LeftParen t) && not (nat_lt (depth_of around) MAX_DEPTH) then Some (error.TooDeep at) else None
+limit (Listed around col literals) at t = if nat_lt (length literals) MAX_LITERALS then None else Some (error.InTooLong at)
 limit (LikeText around col) at t = option_and_then (λ s. if is_prefix s then None else Some (error.BadLike at)) (text_in t)
 limit place at t = None
 

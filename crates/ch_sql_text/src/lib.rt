@@ -16,6 +16,3 @@ pub use laws::{
     printed_tokens_derive,
 };
 pub use printer::print;
-
-#[cfg(test)]
-mod tests;

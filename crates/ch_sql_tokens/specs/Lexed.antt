@@ -6,6 +6,7 @@ use Rattle.std.specs.Int.RustNames.{unsigned_abs}
 use Rattle.ch_cells.specs.Number.{most, is_digit}
 use Rattle.ch_sql_tokens.specs.Byte.{is_blank, begins_with}
 use Rattle.ch_sql_tokens.specs.Spelling.{spelling, TokenAt}
+use Rattle.ch_sql_tokens.specs.declared.scanner.TheConstants.{MAX_QUERY_BYTES}
 use Rattle.ch_sql_tokens.specs.declared.token.Token.{Token}
 use Rattle.ch_sql_tokens.specs.declared.error.LexError.{LexError}
 use Rattle.ch_sql_tokens.specs.declared.error.LexError.TheVariants as error
@@ -25,7 +26,7 @@ IsLexed text tokens = Reads text tokens []
 
 -- a text of a length that a query may have
 abbrev pub IsQueryText : List ℕ → Type 0
-IsQueryText text = length text ≤ 16384
+IsQueryText text = length text ≤ MAX_QUERY_BYTES
 
 -- the first place, from the left, at which no token stands
 pub record IsStuck (text : List ℕ) (at : ℕ) (rest : List ℕ) : Type 0 where
@@ -51,7 +52,7 @@ pub record IsOutOfRange (text : List ℕ) : Type 0 where
   pub out : (v : ℤ) → sign ++ digits ≡ signed_decimal v → most < unsigned_abs v
 
 abbrev pub IsLexError : List ℕ → LexError → Type 0
-IsLexError text (error.TooLong have) = (16384 < length text) × (have ≡ length text)
+IsLexError text (error.TooLong have) = (MAX_QUERY_BYTES < length text) × (have ≡ length text)
 IsLexError text (error.Byte at) = IsQueryText text × ((rest : List ℕ) × IsStuck text at rest × (IsOutOfRange rest → ⊥))
 IsLexError text (error.NumberRange at) = IsQueryText text × ((rest : List ℕ) × IsStuck text at rest × IsOutOfRange rest)
 IsLexError text error.Memory = Unit {0}

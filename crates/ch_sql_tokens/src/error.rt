@@ -2,7 +2,7 @@ use ch_cells::Memory;
 use thiserror::Error;
 
 /// Why a text is no list of tokens. Places count bytes from 0.
-#[derive(Debug, Drop, Error)]
+#[derive(Clone, Copy, Debug, PartialEq, Eq, Error)]
 pub enum LexError {
     #[error("the text has {have} bytes, and a query text has at most 16384")]
     TooLong { have: usize },

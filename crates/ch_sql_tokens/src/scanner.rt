@@ -11,7 +11,7 @@ use ch_cells::{Bytes, Listed, Memory, read_number};
 use std::alloc::Global;
 
 /// The most bytes of a query text.
-const MOST_BYTES: usize = 16384;
+pub const MAX_QUERY_BYTES: usize = 16384;
 
 /// What stands at the front of a text that doesn't begin with a blank.
 #[derive(Debug, Drop)]
@@ -198,7 +198,7 @@ pub fn lex(alloc: Global, text: &[u8]) -> Result<Listed<Token>, LexError>
     // A text that stands for tokens is read, unless memory runs out.
     ensures only { (tokens : List Token) → IsQueryText text.now → IsLexed text.now tokens → Lexes tokens result }
 {
-    if text.len() > MOST_BYTES {
+    if text.len() > MAX_QUERY_BYTES {
         return Err(LexError::TooLong { have: text.len() });
     }
     scan(alloc, text)

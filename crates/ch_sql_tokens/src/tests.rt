@@ -43,48 +43,50 @@ fn lexed(rt: &HostRuntime, text: &[u8]) -> Result<Vec<u8>, Fail> {
     }
 }
 
+/// Each text, and its tokens or its refusal.
+const ROWS: &[(&str, &str)] = &[
+    ("", ""),
+    (" \t\r\n", ""),
+    ("select _a1 Z", "wselect w_a1 wZ "),
+    ("1a -5-3", "n1 wa n-5 n-3 "),
+    ("0", "n0 "),
+    ("2305843009213693951", "n2305843009213693951 "),
+    ("-2305843009213693951", "n-2305843009213693951 "),
+    ("2305843009213693952", "range 0"),
+    ("a -2305843009213693952", "range 2"),
+    ("99999999999999999999999999999999999999999", "range 0"),
+    ("007", "byte 0"),
+    ("-0", "byte 0"),
+    ("-", "byte 0"),
+    ("--5", "byte 0"),
+    ("- 5", "byte 0"),
+    ("a ! 1", "byte 2"),
+    ("'a''b'", "ta'b "),
+    ("'a''", "byte 3"),
+    ("'''", "byte 2"),
+    ("''", "t "),
+    ("''''", "t' "),
+    ("'a''b''c", "byte 6"),
+    ("'a\"b'", "ta\"b "),
+    ("\"\"", "byte 0"),
+    ("\"\"\"", "byte 0"),
+    ("\"\"\"\"", "q\" "),
+    ("\"a\"\"b\"", "qa\"b "),
+    ("\"Select\"", "qSelect "),
+    ("\"a", "byte 0"),
+    ("a 'b", "byte 2"),
+    (
+        "= <> < <= > >= ( ) , . * ;",
+        "sEq sNe sLt sLe sGt sGe sLeftParen sRightParen sComma sDot sStar sSemicolon ",
+    ),
+    ("<<=<>>>=", "sLt sLe sNe sGt sGe "),
+    ("a.b,*", "wa sDot wb sComma sStar "),
+    ("SELECT a FROM t WHERE a ! 1", "byte 24"),
+];
+
 #[test]
 fn reads_each_kind_of_token(rt: HostRuntime) -> Result<(), Fail> {
-    let table = [
-        ("", ""),
-        (" \t\r\n", ""),
-        ("select _a1 Z", "wselect w_a1 wZ "),
-        ("1a -5-3", "n1 wa n-5 n-3 "),
-        ("0", "n0 "),
-        ("2305843009213693951", "n2305843009213693951 "),
-        ("-2305843009213693951", "n-2305843009213693951 "),
-        ("2305843009213693952", "range 0"),
-        ("a -2305843009213693952", "range 2"),
-        ("99999999999999999999999999999999999999999", "range 0"),
-        ("007", "byte 0"),
-        ("-0", "byte 0"),
-        ("-", "byte 0"),
-        ("--5", "byte 0"),
-        ("- 5", "byte 0"),
-        ("a ! 1", "byte 2"),
-        ("'a''b'", "ta'b "),
-        ("'a''", "byte 3"),
-        ("'''", "byte 2"),
-        ("''", "t "),
-        ("''''", "t' "),
-        ("'a''b''c", "byte 6"),
-        ("'a\"b'", "ta\"b "),
-        ("\"\"", "byte 0"),
-        ("\"\"\"", "byte 0"),
-        ("\"\"\"\"", "q\" "),
-        ("\"a\"\"b\"", "qa\"b "),
-        ("\"Select\"", "qSelect "),
-        ("\"a", "byte 0"),
-        ("a 'b", "byte 2"),
-        (
-            "= <> < <= > >= ( ) , . * ;",
-            "sEq sNe sLt sLe sGt sGe sLeftParen sRightParen sComma sDot sStar sSemicolon ",
-        ),
-        ("<<=<>>>=", "sLt sLe sNe sGt sGe "),
-        ("a.b,*", "wa sDot wb sComma sStar "),
-        ("SELECT a FROM t WHERE a ! 1", "byte 24"),
-    ];
-    for (text, want) in table {
+    for (text, want) in ROWS {
         let found = lexed(&rt, text.as_bytes())?;
         assert!(rt; found.as_slice() == want.as_bytes(), "{text}");
     }

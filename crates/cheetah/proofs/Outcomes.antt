@@ -6,8 +6,8 @@ use Rattle.ch_command.specs.Outcome.{Outcome, refused}
 use Rattle.ch_command.specs.Reading.{contents_of, limit_after}
 use Rattle.ch_sql_limits.proofs.Within.{within_read}
 use Rattle.ch_outside.specs.Shelf.{Files}
-use Rattle.ch_refusals.proofs.Given as parsed
-use Rattle.ch_refusals.proofs.Scanned as scanned
+use Rattle.ch_sql_limits.proofs.Given as parsed
+use Rattle.ch_sql_tokens.proofs.Scanned as scanned
 use Rattle.ch_sql.specs.Parsed.{seen}
 use Rattle.ch_tables.specs.Table.{table_of}
 use Rattle.ch_tables.specs.TableValue.{TableValue}

@@ -1,8 +1,0 @@
-use Rattle.ch_refusals.proofs.Given.{either, not_both}
-use Rattle.ch_refusals.proofs.parsing.refused_or_read.Goals as goal
-
-pub returns-clause-either : goal.returns-clause-either
-returns-clause-either c = either
-
-pub returns-clause-not_both : goal.returns-clause-not_both
-returns-clause-not_both c = not_both

@@ -1,0 +1,9 @@
+use Rattle.ch_sql_places.proofs.Refused.{why_refused}
+use Rattle.ch_sql_limits.proofs.Given.{given, one}
+use Rattle.ch_sql_limits.proofs.refusals.parse_refusals_are_exact.Goals as goal
+
+pub returns-clause-exact : goal.returns-clause-exact
+returns-clause-exact c tokens e n = (given tokens e n, why_refused tokens e)
+
+pub returns-clause-one : goal.returns-clause-one
+returns-clause-one c = one
