@@ -1,5 +1,6 @@
 use ch_cells::Memory;
 use ch_ir::{Access, Array, Op};
+use thiserror::Error;
 
 /// A line of a program text.
 #[derive(Debug, Drop)]
@@ -18,10 +19,12 @@ pub enum Line {
 }
 
 /// Why a text is not read as a line.
-#[derive(Clone, Copy, Debug, PartialEq, Eq)]
+#[derive(Clone, Copy, Debug, PartialEq, Eq, Error)]
 pub enum LineError {
     /// It spells no line.
+    #[error("no line of a program")]
     Bad,
+    #[error("out of memory")]
     Memory,
 }
 

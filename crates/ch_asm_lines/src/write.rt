@@ -1,4 +1,4 @@
-//! AllByRecursion function writes at the end of the text.
+//! Each function writes at the end of the text.
 ghost use Rattle.std.specs.Prelude.{◌≡◌, ◌++◌, ◌∷◌, [], OnOk};
 ghost use Rattle.std.specs.List.{join_with_byte, AllByRecursion};
 ghost use Rattle.std.specs.Fmt.{decimal};

@@ -38,9 +38,13 @@ abbrev pub ops_end : List Op → ℕ
 ops_end [] = 0
 ops_end (op ∷ ops) = max (op_end op) (ops_end ops)
 
+-- so many words from a number on
+abbrev pub run_end : ℕ → ℕ → ℕ
+run_end first many = if nat_lt 0 many then first + many else 0
+
 -- the old words, as many as the array has cells; their first number alone where the array isn't there
 abbrev pub old_end : List Array → Access → ℕ
-old_end arrays x = if nat_lt x.array (length arrays) then x.old + cells_of arrays x.array else x.old + 1
+old_end arrays x = run_end x.old (if nat_lt x.array (length arrays) then cells_of arrays x.array else 1)
 
 abbrev pub access_end : List Array → Access → ℕ
 access_end arrays x = max (operands_end (access_operands x)) (max (old_end arrays x) (x.hit + 1))

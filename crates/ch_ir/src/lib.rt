@@ -2,6 +2,7 @@
 #![tactic(auto)]
 
 mod hash;
+mod part;
 mod profile;
 mod program;
 mod read;
@@ -11,6 +12,7 @@ mod setting;
 mod tests;
 
 pub use hash::{hash_more, hash_start, hash_words};
+pub use part::{cells_of, entries_of, to_of};
 pub use profile::{Profile, default_profile};
 pub use program::{Access, Array, Binary, Op, Operand, Program, Stage, Test, Update};
 pub use read::{ProfileError, ProfileWhy, read_profile};

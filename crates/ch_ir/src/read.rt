@@ -94,7 +94,7 @@ fn read_setting(reading: &mut Reading, name: &[u8], number: &[u8]) -> Result<(),
     Ok(())
 }
 
-/// Reads a line. After a refusal the reading is as it was.
+/// Reads a line.
 fn read_line(reading: &mut Reading, line: &[u8]) -> Result<(), ProfileWhy>
     ensures { Gives (line_said (said_of reading.old) (fields_of line.now)) result (said_of reading.new) }
 {

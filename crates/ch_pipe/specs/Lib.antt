@@ -1,10 +1,6 @@
 pub mod Total
-pub mod Agree
-pub mod Column
+pub mod Entry
+pub mod Flat
 pub mod Stages
-pub mod Whole
-pub mod Follow
 pub mod Step
-pub mod Rooms
 pub mod Installed
-pub mod Ready

@@ -1,13 +1,12 @@
--- What the pipeline makes of stages.
-use Rattle.std.specs.Prelude.{◌≡◌, ◌<◌, ◌≤◌, ℕ, zero, suc, List, [], ◌∷◌, ℤ, get_or, length}
-use Rattle.std.proofs.Common.{arith, refl}
+-- What the pipeline makes of stages, and what keeps it in range.
+use Rattle.std.specs.Prelude.{◌<◌, ◌≤◌, ℕ, List, [], ◌∷◌, ℤ, length}
 use Rattle.ch_ir.specs.declared.program.Array.{Array}
 use Rattle.ch_ir.specs.declared.program.Access.{Access}
 use Rattle.ch_ir.specs.declared.program.Stage.{Stage}
 use Rattle.ch_ir.specs.Machine.{cells_of, Registers}
+use Rattle.ch_ir.specs.Rules.{entries_of}
 use Rattle.ch_pipe.specs.Total.{total_ops, OpsRoom}
-use Rattle.ch_pipe.specs.Agree.{total_words, total_registers}
-use Rattle.ch_pipe.specs.Column.{AccessCan}
+use Rattle.ch_pipe.specs.Entry.{total_words, total_registers, AccessRoom, AccessCan}
 
 pub record Held : Type 0 where
   pub words : List ℤ
@@ -38,7 +37,11 @@ StagesCan n room arrays [] h = Unit {0}
 StagesCan n room arrays (s ∷ ss) h = OpsRoom n s.ops × AccessesCan n room arrays s.accesses (record { words = total_ops s.ops h.words; registers = h.registers })
     × StagesCan n room arrays ss (total_stage arrays s h)
 
-pub cells_at : (arrays : List Array) (a : ℕ) (d : Array) → a < length arrays → cells_of arrays a ≡ (get_or arrays a d).cells
-cells_at [] a d h = let bad : ⊥ = omega arith in elim bad [ ]
-cells_at (x ∷ xs) zero d h = refl
-cells_at (x ∷ xs) (suc a) d h = cells_at xs a d (omega arith)
+abbrev pub AccessesRoom : (n room : ℕ) → List Array → List Access → Type 0
+AccessesRoom n room arrays [] = Unit {0}
+AccessesRoom n room arrays (x ∷ xs) = (x.array < length arrays) × (0 < entries_of arrays x.array) × (cells_of arrays x.array ≤ room) × AccessRoom n (cells_of arrays x.array) x × AccessesRoom n room arrays xs
+
+-- what `measure` and the shapes give
+abbrev pub StagesRoom : (n room : ℕ) → List Array → List Stage → Type 0
+StagesRoom n room arrays [] = Unit {0}
+StagesRoom n room arrays (t ∷ ts) = OpsRoom n t.ops × AccessesRoom n room arrays t.accesses × StagesRoom n room arrays ts

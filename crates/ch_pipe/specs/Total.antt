@@ -1,9 +1,6 @@
 -- What the pipeline computes: each word has some value, and the static rooms keep its indices in range.
-use Rattle.std.specs.Prelude.{ℕ, ◌<◌, List, [], ◌∷◌, ℤ, pos, get_or, set, if◌then◌else◌}
-use Rattle.std.specs.Prelude.{◌+◌, ◌+ℤ◌}
+use Rattle.std.specs.Prelude.{ℕ, ◌<◌, List, [], ◌∷◌, ℤ, pos, negsuc, get_or, set, if◌then◌else◌, ◌+◌, ◌+ℤ◌}
 use Rattle.std.specs.Int.{w64, saturate_signed, int_min, int_max, int_bit_or}
-use Rattle.std.specs.declared.alloc.Global.{Global}
-use Rattle.std.specs.declared.vec.Vec.{Vec}
 use Rattle.ch_ir.specs.declared.program.Update.{Update}
 use Rattle.ch_ir.specs.declared.program.Update.TheVariants as update
 use Rattle.ch_ir.specs.declared.program.Operand.{Operand}
@@ -20,6 +17,14 @@ value_at words (Const c) = c
 abbrev pub values_at : List ℤ → List ℕ → List ℤ
 values_at words [] = []
 values_at words (w ∷ rest) = get_or words w (pos 0) ∷ values_at words rest
+
+abbrev pub values_of : List ℤ → List Operand → List ℤ
+values_of words [] = []
+values_of words (a ∷ rest) = value_at words a ∷ values_of words rest
+
+abbrev pub nat_of : ℤ → ℕ
+nat_of (pos n) = n
+nat_of (negsuc n) = 0
 
 abbrev pub total_value : List ℤ → Op → ℤ
 total_value words (Set to a) = value_at words a
@@ -79,6 +84,3 @@ total_updates words (u ∷ us) (x ∷ xs) = total_update words u x ∷ total_upd
 abbrev pub total_store : ℕ → List ℤ → List ℤ → List ℤ
 total_store to [] words = words
 total_store to (x ∷ xs) words = total_store (to + 1) xs (set words to x)
-
-abbrev pub items_of : Vec ℤ Global → List ℤ
-items_of v = v.items

@@ -1,14 +1,14 @@
-ghost use Rattle.std.specs.Prelude.{◌≡◌, ◌<◌, ◌≤◌, ℕ, ℤ, pos, List, [], map, length, take, true, IsTrue, set, slice_index_or, if◌then◌else◌, ◌+◌, replicate};
+ghost use Rattle.std.specs.Prelude.{◌≡◌, ◌<◌, ◌≤◌, ◌+◌, ◌*◌, true, IsTrue, if◌then◌else◌, length, take, drop};
 ghost use Rattle.std.specs.Ordering.{int_eq};
-ghost use Rattle.ch_ir.specs.Machine.{holds_at, same_words, is_set, mark_of, truth};
+ghost use Rattle.ch_ir.specs.Machine.{cells_of, holds_at, is_set, same_words};
 ghost use Rattle.ch_ir.specs.Rules.{key_words, test_fits};
-ghost use Rattle.ch_pipe.specs.Total.{items_of, value_at, OperandBelow, total_updates, total_store};
-ghost use Rattle.ch_pipe.specs.Agree.{values_of, nat_of, total_words, total_registers};
-ghost use Rattle.ch_pipe.specs.Column.{KeyRoom, AccessRoom, AccessCan, IsIndex, shown, cells_in, words_on, column_on};
+ghost use Rattle.ch_pipe.specs.Total.{OperandBelow, nat_of, total_store, total_updates, value_at, values_of};
+ghost use Rattle.ch_pipe.specs.Entry.{AccessCan, AccessRoom, IsIndex, KeyRoom, cells_on, total_registers, total_words, words_off, words_on};
+ghost use Rattle.ch_pipe.specs.Flat.{IsLaid, cut};
 
-use crate::cells::{store, update_entry};
+use crate::cells::{store, update_cells};
 use crate::ops::{as_word, value_of};
-use ch_ir::{Access, Operand, Test};
+use ch_ir::{Access, Array, Operand, Test, cells_of};
 
 fn is_same(a: i64, b: i64) -> bool
     ensures { result ≡ int_eq a b }
@@ -46,16 +46,6 @@ pub fn holds(test: Test, cells: &[i64], key: &[Operand], words: &[i64]) -> bool
     }
 }
 
-/// Copies the cells to the front of the room.
-fn keep(cells: &[i64], room: &mut [i64])
-    requires { length cells.now ≤ length room.old }
-    ensures { take (length cells.now) room.new ≡ cells.now }
-{
-    for at in 0..cells.len() {
-        room[at] = cells[at];
-    }
-}
-
 /// The entry's index.
 fn index_at(index: Operand, words: &[i64]) -> usize
     requires room { OperandBelow (length words.now) index }
@@ -65,46 +55,31 @@ fn index_at(index: Operand, words: &[i64]) -> usize
     value_of(index, words) as usize
 }
 
-/// Updates the entry, and tells whether the test held.
-fn renew(x: &Access, at: usize, words: &[i64], array: &mut [Vec<i64>]) -> bool
-    requires there { at < length array.old }
-    requires room { AccessRoom (length words.now) (length (slice_index_or (map items_of array.old) at [])) x.now }
-    ensures hit { result ≡ holds_at x.now.test (values_of words.now x.now.key) (slice_index_or (map items_of array.old) at []) }
-    ensures array { map items_of array.new ≡ set (map items_of array.old) at (total_updates words.now (if result then x.now.yes else x.now.no) (slice_index_or (map items_of array.old) at [])) }
+/// Updates the cells of an entry, and tells whether the test held.
+fn renew(x: &Access, words: &[i64], cells: &mut [i64]) -> bool
+    requires { AccessRoom (length words.now) (length cells.old) x.now }
+    ensures hit { result ≡ holds_at x.now.test (values_of words.now x.now.key) cells.old }
+    ensures cells { cells.new ≡ total_updates words.now (if result then x.now.yes else x.now.no) cells.old }
 {
-    let hit = holds(x.test, array[at].as_slice(), x.key.as_slice(), words);
+    let hit = holds(x.test, cells, x.key.as_slice(), words);
     if hit {
-        update_entry(array, at, x.yes.as_slice(), words);
+        update_cells(x.yes.as_slice(), cells, words);
     } else {
-        update_entry(array, at, x.no.as_slice(), words);
+        update_cells(x.no.as_slice(), cells, words);
     }
     hit
 }
 
-/// Copies an entry.
-fn keep_entry(array: &[Vec<i64>], at: usize, room: &mut [i64]) -> usize
-    requires there { at < length array.now }
-    requires fits { length (slice_index_or (map items_of array.now) at []) ≤ length room.old }
-    ensures many { result ≡ length (slice_index_or (map items_of array.now) at []) }
-    ensures kept { take result room.new ≡ slice_index_or (map items_of array.now) at [] }
-    ensures long { result ≤ length room.new }
+/// An access whose guard is set, to the cells of its entry.
+fn access_cells(x: &Access, words: &mut [i64], cells: &mut [i64], room: &mut [i64])
+    requires room { AccessRoom (length words.old) (length cells.old) x.now }
+    requires fits { length cells.old ≤ length room.old }
+    ensures words { words.new ≡ words_on x.now words.old cells.old }
+    ensures cells { cells.new ≡ cells_on x.now words.old cells.old }
 {
-    keep(array[at].as_slice(), room);
-    array[at].len()
-}
-
-/// An access whose guard is set.
-pub fn access_on(x: &Access, words: &mut [i64], array: &mut [Vec<i64>], room: &mut [i64])
-    requires index { IsIndex (value_at words.old x.now.index) }
-    requires there { nat_of (value_at words.old x.now.index) < length array.old }
-    requires room { AccessRoom (length words.old) (length (cells_in x.now words.old (map items_of array.old))) x.now }
-    requires fits { length (cells_in x.now words.old (map items_of array.old)) ≤ length room.old }
-    ensures words { words.new ≡ words_on x.now words.old (map items_of array.old) }
-    ensures array { map items_of array.new ≡ column_on x.now words.old (map items_of array.old) }
-{
-    let at = index_at(x.index, words);
-    let many = keep_entry(array, at, room);
-    let hit = renew(x, at, words, array);
+    let many = cells.len();
+    room[..many].copy_from_slice(cells);
+    let hit = renew(x, words, cells);
     store(words, x.old as usize, &room[..many]);
     words[x.hit as usize] = as_word(hit);
 }
@@ -116,62 +91,57 @@ fn is_on(value: i64) -> bool
     value != 0
 }
 
-/// Makes the front of the room 0.
-fn zero_front(room: &mut [i64], many: usize)
-    requires { many ≤ length room.old }
-    ensures { take many room.new ≡ replicate many (pos 0) }
-{
-    for at in 0..many {
-        room[at] = 0;
-    }
-}
-
 /// An access whose guard isn't set.
-fn access_off(x: &Access, cells: u32, words: &mut [i64], room: &mut [i64])
+fn access_off(x: &Access, cells: u32, words: &mut [i64])
     requires old { x.now.old + cells ≤ length words.old }
     requires hit { x.now.hit < length words.old }
-    requires fits { cells ≤ length room.old }
-    ensures { words.new ≡ set (total_store x.now.old (replicate cells (pos 0)) words.old) x.now.hit (pos 0) }
+    ensures { words.new ≡ words_off cells x.now words.old }
 {
-    let many = cells as usize;
-    zero_front(room, many);
-    store(words, x.old as usize, &room[..many]);
+    let old = x.old as usize;
+    words[old..old + cells as usize].fill(0);
     words[x.hit as usize] = 0;
 }
 
-/// An access whose guard is set, of one of the arrays.
-fn access_array(
+/// An access whose guard is set, to an array whose entries have so many cells and begin at this base.
+fn access_on(
     x: &Access,
     cells: u32,
+    base: usize,
     words: &mut [i64],
-    registers: &mut [Vec<Vec<i64>>],
+    registers: &mut [i64],
     room: &mut [i64],
 )
-    requires on { is_set (value_at words.old x.now.guard) ≡ true }
-    requires can { AccessCan (length words.old) cells x.now words.old (shown registers.old) }
+    requires index { IsIndex (value_at words.old x.now.index) }
+    requires there { base + nat_of (value_at words.old x.now.index) * cells + cells ≤ length registers.old }
+    requires room { AccessRoom (length words.old) cells x.now }
     requires fits { cells ≤ length room.old }
-    ensures words { words.new ≡ words_on x.now words.old (slice_index_or (shown registers.old) x.now.array []) }
-    ensures registers { shown registers.new ≡ set (shown registers.old) x.now.array (column_on x.now words.old (slice_index_or (shown registers.old) x.now.array [])) }
+    ensures words { words.new ≡ words_on x.now words.old (take cells (drop (base + nat_of (value_at words.old x.now.index) * cells) registers.old)) }
+    ensures registers { registers.new ≡ total_store (base + nat_of (value_at words.old x.now.index) * cells) (cells_on x.now words.old (take cells (drop (base + nat_of (value_at words.old x.now.index) * cells) registers.old))) registers.old }
 {
-    access_on(x, words, registers[x.array as usize].as_mut_slice(), room);
+    let many = cells as usize;
+    let at = base + index_at(x.index, words) * many;
+    access_cells(x, words, &mut registers[at..at + many], room);
 }
 
 /// An access.
 pub fn run_access(
     x: &Access,
-    cells: u32,
+    arrays: &[Array],
+    bases: &[usize],
     words: &mut [i64],
-    registers: &mut [Vec<Vec<i64>>],
+    registers: &mut [i64],
     room: &mut [i64],
 )
-    requires can { AccessCan (length words.old) cells x.now words.old (shown registers.old) }
-    requires fits { cells ≤ length room.old }
-    ensures words { words.new ≡ total_words cells x.now words.old (shown registers.old) }
-    ensures registers { shown registers.new ≡ total_registers x.now words.old (shown registers.old) }
+    requires laid { IsLaid arrays.now bases.now (length registers.old) }
+    requires can { AccessCan (length words.old) (cells_of arrays.now x.now.array) x.now words.old (cut arrays.now registers.old) }
+    requires fits { cells_of arrays.now x.now.array ≤ length room.old }
+    ensures words { words.new ≡ total_words (cells_of arrays.now x.now.array) x.now words.old (cut arrays.now registers.old) }
+    ensures registers { cut arrays.now registers.new ≡ total_registers x.now words.old (cut arrays.now registers.old) }
 {
+    let cells = cells_of(arrays, x.array);
     if is_on(value_of(x.guard, words)) {
-        access_array(x, cells, words, registers, room);
+        access_on(x, cells, bases[x.array as usize], words, registers, room);
     } else {
-        access_off(x, cells, words, room);
+        access_off(x, cells, words);
     }
 }

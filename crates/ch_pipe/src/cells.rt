@@ -1,5 +1,5 @@
-ghost use Rattle.std.specs.Prelude.{◌≡◌, ◌<◌, ◌≤◌, ◌+◌, map, ℕ, ℤ, List, [], length, set, slice_index_or};
-ghost use Rattle.ch_pipe.specs.Total.{UpdateRoom, UpdatesRoom, total_update, total_updates, total_store, items_of};
+ghost use Rattle.std.specs.Prelude.{◌≡◌, ◌≤◌, ◌+◌, length};
+ghost use Rattle.ch_pipe.specs.Total.{UpdateRoom, UpdatesRoom, total_update, total_updates, total_store};
 
 use crate::ops::value_of;
 use ch_ir::Update;
@@ -30,22 +30,10 @@ pub fn update_cells(updates: &[Update], cells: &mut [i64], words: &[i64])
     }
 }
 
-/// Updates one entry of an array.
-pub fn update_entry(array: &mut [Vec<i64>], entry: usize, updates: &[Update], words: &[i64])
-    requires there { entry < length array.old }
-    requires room { UpdatesRoom (length words.now) updates.now }
-    requires each { length updates.now ≡ length (slice_index_or (map items_of array.old) entry []) }
-    ensures { map items_of array.new ≡ set (map items_of array.old) entry (total_updates words.now updates.now (slice_index_or (map items_of array.old) entry [])) }
-{
-    update_cells(updates, array[entry].as_mut_slice(), words);
-}
-
 /// Writes cells into the words from a place on.
 pub fn store(words: &mut [i64], to: usize, cells: &[i64])
     requires { to + length cells.now ≤ length words.old }
     ensures { words.new ≡ total_store to cells.now words.old }
 {
-    for at in 0..cells.len() {
-        words[to + at] = cells[at];
-    }
+    words[to..to + cells.len()].copy_from_slice(cells);
 }

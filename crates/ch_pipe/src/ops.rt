@@ -3,7 +3,7 @@ ghost use Rattle.ch_ir.specs.Machine.{two_of, bit_of, op_to, truth, is_set};
 ghost use Rattle.ch_ir.specs.Hash.{hash_of};
 ghost use Rattle.ch_pipe.specs.Total.{value_at, values_at, total_value, total_ops, OperandBelow, NumbersBelow, OpRoom, OpsRoom};
 
-use ch_ir::{Binary, Op, Operand, hash_more, hash_start};
+use ch_ir::{Binary, Op, Operand, hash_more, hash_start, to_of};
 
 /// The value of an operand.
 pub fn value_of(a: Operand, words: &[i64]) -> i64
@@ -87,18 +87,6 @@ pub fn run_op(op: &Op, words: &[i64]) -> i64
             words,
             u64::from(*modulus),
         ) as i64,
-    }
-}
-
-fn to_of(op: &Op) -> u32
-    ensures { result ≡ op_to op.now }
-{
-    match op {
-        Op::Set(to, _) => *to,
-        Op::Two(to, _, _, _) => *to,
-        Op::Bit(to, _) => *to,
-        Op::Pick(to, _, _, _) => *to,
-        Op::Hash(to, _, _, _) => *to,
     }
 }
 

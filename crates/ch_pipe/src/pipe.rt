@@ -1,9 +1,9 @@
 ghost use Rattle.std.specs.Prelude.{◌≡◌, ◌<◌, ◌≤◌, [], pos, Some, length, slice_index_or, IfOk};
 ghost use Rattle.ch_ir.specs.Machine.{Registers, cells_of, cleared, machine};
 ghost use Rattle.ch_ir.specs.Rules.{entries_of};
-ghost use Rattle.ch_verify.specs.SoundAccess.{RegistersFit};
+ghost use Rattle.ch_verify.specs.Fits.{RegistersFit};
 
-use crate::registers::{cell, clear_registers, cleared_registers, widest, zeros};
+use crate::registers::{Layout, cell, lay_out, widest, zeros};
 use crate::step::step_row;
 use ch_cells::Memory;
 use ch_ir::Program;
@@ -15,22 +15,24 @@ use std::marker::Model;
 #[derive(Drop)]
 pub struct Pipe {
     checked: Checked,
+    bases: Vec<usize>,
     words: Vec<i64>,
-    registers: Vec<Vec<Vec<i64>>>,
+    registers: Vec<i64>,
     room: Vec<i64>,
 }
 
 impl Model for Pipe {
     ghost use Rattle.ch_pipe.specs.Installed.{Installed};
-    ghost use Rattle.ch_pipe.specs.Column.{shown};
+    ghost use Rattle.ch_pipe.specs.Flat.{IsLaid, cut};
     ghost use Rattle.ch_pipe.specs.Step.{Ready};
     ghost use Rattle.std.specs.Prelude.{length};
 
     ghost Value = { Installed };
 
-    ghost view = { λ p. record { program = p.checked; registers = shown p.registers.items } };
+    ghost view = { λ p. record { program = p.checked; registers = cut p.checked.arrays p.registers.items } };
 
-    ghost invariant = { λ p. Ready p.checked (length p.words.items) (length p.room.items) (shown p.registers.items) };
+    ghost invariant = { λ p. IsLaid p.checked.arrays p.bases.items (length p.registers.items)
+        × Ready p.checked (length p.words.items) (length p.room.items) (cut p.checked.arrays p.registers.items) };
 }
 
 impl Pipe {
@@ -42,9 +44,12 @@ impl Pipe {
         let program = checked.program();
         let words = zeros(alloc, measure(program).words as usize)?;
         let room = zeros(alloc, widest(program.arrays.as_slice()) as usize)?;
-        let registers = cleared_registers(alloc, program.arrays.as_slice())?;
+        let layout = lay_out(alloc, program.arrays.as_slice())?;
+        let registers = zeros(alloc, layout.size)?;
+        let Layout { bases, size: _ } = layout;
         Ok(Pipe {
             checked,
+            bases,
             words,
             registers,
             room,
@@ -56,7 +61,6 @@ impl Pipe {
         ensures same { result.now ≡ self.now.program }
         ensures fits { RegistersFit self.now.program.arrays self.now.registers }
     {
-        let _ = &self.words;
         self.checked.program()
     }
 
@@ -68,6 +72,7 @@ impl Pipe {
     {
         step_row(
             self.checked.program(),
+            self.bases.as_slice(),
             words,
             self.words.as_mut_slice(),
             self.registers.as_mut_slice(),
@@ -82,7 +87,14 @@ impl Pipe {
         requires at { at < cells_of self.now.program.arrays array }
         ensures { result ≡ slice_index_or (slice_index_or (slice_index_or self.now.registers array []) entry []) at (pos 0) }
     {
-        cell(self.registers.as_slice(), array, entry, at)
+        cell(
+            self.checked.program().arrays.as_slice(),
+            self.bases.as_slice(),
+            self.registers.as_slice(),
+            array,
+            entry,
+            at,
+        )
     }
 
     /// Makes all cells 0.
@@ -90,6 +102,6 @@ impl Pipe {
         ensures registers { self.new.registers ≡ cleared self.old.program.arrays }
         ensures program { self.new.program ≡ self.old.program }
     {
-        clear_registers(self.registers.as_mut_slice());
+        self.registers.as_mut_slice().fill(0);
     }
 }

@@ -1,7 +1,7 @@
 ghost use Rattle.std.specs.Prelude.{◌≡◌, ◌<◌, ◌≤◌, ℕ, ℤ, pos, Some, length, slice_index_or};
 ghost use Rattle.ch_ir.specs.Machine.{machine, is_set};
-ghost use Rattle.ch_verify.specs.SoundAccess.{AllFits};
-ghost use Rattle.ch_pipe.specs.Column.{shown};
+ghost use Rattle.ch_verify.specs.Fits.{AllFits};
+ghost use Rattle.ch_pipe.specs.Flat.{IsLaid, cut};
 ghost use Rattle.ch_pipe.specs.Step.{Ready};
 
 use crate::stage::run_stages;
@@ -17,9 +17,7 @@ fn write_row(row: &[i64], width: usize, words: &mut [i64])
     for at in 0..row.len() {
         words[at] = row[at];
     }
-    for past in row.len()..width {
-        words[past] = 0;
-    }
+    words[row.len()..width].fill(0);
 }
 
 fn is_on_at(words: &[i64], at: u32) -> bool
@@ -32,20 +30,23 @@ fn is_on_at(words: &[i64], at: u32) -> bool
 /// Runs the program on a row, and answers whether the row is pruned.
 pub fn step_row(
     program: &Program,
+    bases: &[usize],
     row: &[i64],
     words: &mut [i64],
-    registers: &mut [Vec<Vec<i64>>],
+    registers: &mut [i64],
     room: &mut [i64],
 ) -> bool
-    requires ready { Ready program.now (length words.old) (length room.old) (shown registers.old) }
+    requires laid { IsLaid program.now.arrays bases.now (length registers.old) }
+    requires ready { Ready program.now (length words.old) (length room.old) (cut program.now.arrays registers.old) }
     requires many { length row.now ≤ program.now.width }
-    ensures value { machine program.now (shown registers.old) row.now ≡ Some (record { prune = result; registers = shown registers.new }) }
-    ensures ready { Ready program.now (length words.new) (length room.new) (shown registers.new) }
+    ensures value { machine program.now (cut program.now.arrays registers.old) row.now ≡ Some (record { prune = result; registers = cut program.now.arrays registers.new }) }
+    ensures ready { Ready program.now (length words.new) (length room.new) (cut program.now.arrays registers.new) }
 {
     write_row(row, program.width as usize, words);
     run_stages(
         program.stages.as_slice(),
         program.arrays.as_slice(),
+        bases,
         words,
         registers,
         room,

@@ -1,5 +1,3 @@
-pub mod Sound
-pub mod SoundAccess
-pub mod Ends
+pub mod Fits
 pub mod Known
 pub mod Checked

@@ -2,14 +2,13 @@ ghost use Rattle.std.specs.Prelude.{◌≡◌, ◌<◌, ◌≤◌, ◌+◌, ◌^
 ghost use Rattle.ch_ir.specs.Machine.{cells_of};
 ghost use Rattle.ch_ir.specs.Measure.{access_end, accesses_end};
 ghost use Rattle.ch_ir.specs.Rules.{access_operands, access_refusal, accesses_refusal, after_access, after_accesses, after_assign, after_old, assign_refusal, first_unknown, has_shape, key_words, old_refusal, range_refusal, reach_refusal, test_fits, update_operand, update_operands, with_array, with_arrays};
-ghost use Rattle.ch_verify.specs.Sound.{AllConstFit};
-ghost use Rattle.ch_verify.specs.SoundAccess.{AllAccessesFit};
+ghost use Rattle.ch_verify.specs.Fits.{AllConstFit, AllAccessesFit};
 ghost use Rattle.ch_verify.specs.Known.{known_of, used_of};
 
-use crate::known::{FLAG, WHOLE, cells_of, entries_of, is_known, learn, span_of, unknown};
-use ch_ir::{Access, Array, Operand, Refused, Span, Test, Update};
+use crate::known::{FLAG, WHOLE, is_known, learn, span_of, unknown};
+use ch_ir::{Access, Array, Operand, Refused, Span, Test, Update, cells_of, entries_of};
 
-#[tactic(auto, using(crate::specs::Known::first_append))]
+#[tactic(auto, using(crate::proofs::Operands::first_append))]
 fn unknown_among(operands: &[Operand], known: &[Option<Span>]) -> Option<u32>
     ensures word { result ≡ first_unknown (known_of known.now) operands.now }
     ensures fits { IfNone result (AllConstFit operands.now) }
@@ -36,7 +35,7 @@ fn unknown_of_update(update: Update, known: &[Option<Span>]) -> Option<u32>
     }
 }
 
-#[tactic(auto, using(crate::specs::Known::first_append, crate::specs::Known::fits_append))]
+#[tactic(auto, using(crate::proofs::Operands::first_append, crate::proofs::Operands::fits_append))]
 fn unknown_in_updates(updates: &[Update], known: &[Option<Span>]) -> Option<u32>
     ensures word { result ≡ first_unknown (known_of known.now) (update_operands updates.now) }
     ensures fits { IfNone result (AllConstFit (update_operands updates.now)) }
@@ -50,7 +49,7 @@ fn unknown_in_updates(updates: &[Update], known: &[Option<Span>]) -> Option<u32>
 }
 
 /// The first word that the updates of an access read and that has no value.
-#[tactic(auto, using(crate::specs::Known::first_append, crate::specs::Known::fits_append))]
+#[tactic(auto, using(crate::proofs::Operands::first_append, crate::proofs::Operands::fits_append))]
 fn unknown_in_both(x: &Access, known: &[Option<Span>]) -> Option<u32>
     ensures word { result ≡ first_unknown (known_of known.now) (update_operands x.now.yes ++ update_operands x.now.no) }
     ensures fits { IfNone result (AllConstFit (update_operands x.now.yes ++ update_operands x.now.no)) }
@@ -61,7 +60,7 @@ fn unknown_in_both(x: &Access, known: &[Option<Span>]) -> Option<u32>
     }
 }
 
-#[tactic(auto, using(crate::specs::Known::first_append, crate::specs::Known::fits_append))]
+#[tactic(auto, using(crate::proofs::Operands::first_append, crate::proofs::Operands::fits_append))]
 fn unknown_after_guard(x: &Access, known: &[Option<Span>]) -> Option<u32>
     ensures word { result ≡ first_unknown (known_of known.now) (x.now.key ++ (update_operands x.now.yes ++ update_operands x.now.no)) }
     ensures fits { IfNone result (AllConstFit (x.now.key ++ (update_operands x.now.yes ++ update_operands x.now.no))) }
@@ -72,7 +71,7 @@ fn unknown_after_guard(x: &Access, known: &[Option<Span>]) -> Option<u32>
     }
 }
 
-#[tactic(auto, using(crate::specs::Known::first_append))]
+#[tactic(auto, using(crate::proofs::Operands::first_append))]
 fn unknown_after_index(x: &Access, known: &[Option<Span>]) -> Option<u32>
     ensures word { result ≡ first_unknown (known_of known.now) (x.now.guard ∷ x.now.key ++ (update_operands x.now.yes ++ update_operands x.now.no)) }
     ensures fits { IfNone result (AllConstFit (x.now.guard ∷ x.now.key ++ (update_operands x.now.yes ++ update_operands x.now.no))) }
@@ -84,7 +83,7 @@ fn unknown_after_index(x: &Access, known: &[Option<Span>]) -> Option<u32>
 }
 
 /// The first word that an access reads and that has no value: of the index, the guard, the key, and the updates.
-#[tactic(auto, using(crate::specs::Known::first_append))]
+#[tactic(auto, using(crate::proofs::Operands::first_append))]
 fn unknown_of_access(x: &Access, known: &[Option<Span>]) -> Option<u32>
     ensures word { result ≡ first_unknown (known_of known.now) (access_operands x.now) }
     ensures fits { IfNone result (AllConstFit (access_operands x.now)) }
@@ -219,7 +218,7 @@ fn assign_refusal(stage: u32, cells: u32, x: &Access, known: &mut [Option<Span>]
 }
 
 /// The first rule that an access breaks. Where there is none, what it assigns is known then, and its array is used.
-#[tactic(auto, using(crate::specs::Ends::shape_there))]
+#[tactic(auto, using(crate::proofs::Ends::shape_there))]
 fn access_refusal(
     arrays: &[Array],
     stage: u32,

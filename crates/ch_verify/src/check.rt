@@ -1,7 +1,7 @@
 ghost use Rattle.std.specs.Prelude.{◌≡◌, ◌≢◌, ◌<◌, ◌≤◌, ◌-◌, ◌^◌, Some, None, length, vec_len, IfErr, IfNone, IfOk};
 ghost use Rattle.ch_ir.specs.Measure.{first_refusal, limit_refusal, most_ops, over, stages_end};
 ghost use Rattle.ch_ir.specs.Rules.{inputs, none_used, rule_refusal, verdict_refusal};
-ghost use Rattle.ch_verify.specs.SoundAccess.{AllStagesFit};
+ghost use Rattle.ch_verify.specs.Fits.{AllStagesFit};
 ghost use Rattle.ch_verify.specs.Known.{known_of, used_of};
 
 use crate::checked::Checked;

@@ -1,12 +1,11 @@
 ghost use Rattle.std.specs.Prelude.{◌≡◌, ◌<◌, ◌≤◌, ◌+◌, ℕ, List, [], ◌∷◌, map, length, is_some, IsTrue, IfNone};
 ghost use Rattle.ch_ir.specs.declared.program.Operand.TheVariants.{Word};
-ghost use Rattle.ch_ir.specs.Machine.{cells_of, op_to};
 ghost use Rattle.ch_ir.specs.Measure.{ops_end};
-ghost use Rattle.ch_ir.specs.Rules.{after_ops, entries_of, first_unknown, has_modulus, hull, learn, op_refusal, op_span, operands_of, ops_refusal, span_of, two_span, whole};
-ghost use Rattle.ch_verify.specs.Sound.{AllConstFit, AllOpsFit, ConstFits, ModulusFits, OpFits};
+ghost use Rattle.ch_ir.specs.Rules.{after_ops, first_unknown, has_modulus, hull, learn, op_refusal, op_span, operands_of, ops_refusal, span_of, two_span, whole};
+ghost use Rattle.ch_verify.specs.Fits.{AllConstFit, AllOpsFit, ConstFits, ModulusFits, OpFits};
 ghost use Rattle.ch_verify.specs.Known.{known_of};
 
-use ch_ir::{Array, Binary, Op, Operand, Refused, Span};
+use ch_ir::{Binary, Op, Operand, Refused, Span, to_of};
 
 /// All of `i64`.
 pub const WHOLE: Span = Span {
@@ -16,30 +15,6 @@ pub const WHOLE: Span = Span {
 
 /// The values of a test.
 pub const FLAG: Span = Span { low: 0, high: 1 };
-
-/// The cells of an entry of an array, 0 where the array isn't there.
-#[tactic(auto, using(crate::specs::Ends::cells_at, crate::specs::Ends::cells_past))]
-pub fn cells_of(arrays: &[Array], array: u32) -> u32
-    ensures { result ≡ cells_of arrays.now array }
-{
-    if (array as usize) < arrays.len() {
-        arrays[array as usize].cells
-    } else {
-        0
-    }
-}
-
-/// The entries of an array, 0 where the array isn't there.
-#[tactic(auto, using(crate::specs::Ends::entries_at, crate::specs::Ends::entries_past))]
-pub fn entries_of(arrays: &[Array], array: u32) -> u32
-    ensures { result ≡ entries_of arrays.now array }
-{
-    if (array as usize) < arrays.len() {
-        arrays[array as usize].entries
-    } else {
-        0
-    }
-}
 
 pub fn is_known(w: u32, known: &[Option<Span>]) -> bool
     ensures { result ≡ is_some (known_of known.now w) }
@@ -113,7 +88,7 @@ fn unknown_of_three(a: Operand, b: Operand, c: Operand, known: &[Option<Span>]) 
 }
 
 /// The first word that an op reads and that has no value.
-#[tactic(auto, using(crate::specs::Known::words_fit))]
+#[tactic(auto, using(crate::proofs::Operands::words_fit))]
 fn unknown_of_op(op: &Op, known: &[Option<Span>]) -> Option<u32>
     ensures word { result ≡ first_unknown (known_of known.now) (operands_of op.now) }
     ensures fits { IfNone result (AllConstFit (operands_of op.now)) }
@@ -124,19 +99,6 @@ fn unknown_of_op(op: &Op, known: &[Option<Span>]) -> Option<u32>
         Op::Bit(_, a) => unknown(*a, known),
         Op::Pick(_, a, b, c) => unknown_of_three(*a, *b, *c, known),
         Op::Hash(_, _, _, numbers) => unknown_number(numbers.as_slice(), known),
-    }
-}
-
-/// The word that an op assigns.
-pub fn to_of(op: &Op) -> u32
-    ensures { result ≡ op_to op.now }
-{
-    match op {
-        Op::Set(to, _) => *to,
-        Op::Two(to, _, _, _) => *to,
-        Op::Bit(to, _) => *to,
-        Op::Pick(to, _, _, _) => *to,
-        Op::Hash(to, _, _, _) => *to,
     }
 }
 

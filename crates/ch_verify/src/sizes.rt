@@ -1,11 +1,9 @@
 ghost use Rattle.std.specs.Prelude.{◌≡◌, ◌↔◌, IsTrue, ◌<◌, ◌≤◌, ◌-◌, ◌+◌, ◌^◌, map, length, List, [], ◌∷◌};
 ghost use Rattle.ch_ir.specs.declared.program.Operand.TheVariants.{Word};
 ghost use Rattle.ch_ir.specs.Rules.{operands_of, access_operands, update_operand, update_operands};
-ghost use Rattle.ch_ir.specs.Machine.{cells_of};
-ghost use Rattle.ch_ir.specs.Measure.{greatest_array, operand_end, operands_end, op_end, ops_end, old_end, access_end, accesses_end, stage_end, stages_end, most_ops, sizes_of};
+ghost use Rattle.ch_ir.specs.Measure.{greatest_array, operand_end, operands_end, op_end, ops_end, run_end, old_end, access_end, accesses_end, stage_end, stages_end, most_ops, sizes_of};
 
-use crate::known::{cells_of, to_of};
-use ch_ir::{Access, Array, Op, Operand, Program, Sizes, Stage, Update};
+use ch_ir::{Access, Array, Op, Operand, Program, Sizes, Stage, Update, cells_of, to_of};
 
 fn number_end(number: u32) -> u64
     ensures { result ≡ number + 1 }
@@ -55,7 +53,7 @@ fn update_end(update: Update) -> u64
     }
 }
 
-#[tactic(auto, using(crate::specs::Ends::end_append))]
+#[tactic(auto, using(crate::proofs::Ends::end_append))]
 fn updates_end(updates: &[Update]) -> u64
     ensures { result ≡ operands_end (update_operands updates.now) }
 {
@@ -94,17 +92,28 @@ fn ops_end(ops: &[Op]) -> u64
     end
 }
 
+/// The end of so many words from a number on.
+fn run_end(first: u32, many: u32) -> u64
+    ensures { result ≡ run_end first many }
+{
+    if 0 < many {
+        u64::from(first) + u64::from(many)
+    } else {
+        0
+    }
+}
+
 fn old_end(arrays: &[Array], x: &Access) -> u64
     ensures { result ≡ old_end arrays.now x.now }
 {
     if (x.array as usize) < arrays.len() {
-        u64::from(x.old) + u64::from(cells_of(arrays, x.array))
+        run_end(x.old, cells_of(arrays, x.array))
     } else {
-        number_end(x.old)
+        run_end(x.old, 1)
     }
 }
 
-#[tactic(auto, using(crate::specs::Ends::end_append))]
+#[tactic(auto, using(crate::proofs::Ends::end_append))]
 fn access_operands_end(x: &Access) -> u64
     ensures { result ≡ operands_end (access_operands x.now) }
 {

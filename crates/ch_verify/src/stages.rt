@@ -1,7 +1,7 @@
 ghost use Rattle.std.specs.Prelude.{◌≡◌, ◌<◌, ◌≤◌, ◌^◌, length, IfNone};
 ghost use Rattle.ch_ir.specs.Measure.{stage_end, stages_end};
 ghost use Rattle.ch_ir.specs.Rules.{after_stage, after_stages, stage_refusal, stages_refusal, with_arrays};
-ghost use Rattle.ch_verify.specs.SoundAccess.{AllStagesFit, StageFits};
+ghost use Rattle.ch_verify.specs.Fits.{AllStagesFit, StageFits};
 ghost use Rattle.ch_verify.specs.Known.{known_of, used_of};
 
 use crate::access::accesses_refusal;

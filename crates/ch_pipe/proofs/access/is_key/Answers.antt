@@ -7,8 +7,8 @@ use Rattle.ch_ir.specs.declared.program.Operand.{Operand}
 use Rattle.ch_ir.specs.declared.program.Operand.TheVariants.{Word}
 use Rattle.ch_ir.specs.Machine.{same_words}
 use Rattle.ch_pipe.specs.Total.{value_at}
-use Rattle.ch_pipe.specs.Agree.{values_of}
-use Rattle.ch_pipe.specs.Column.{KeyRoom}
+use Rattle.ch_pipe.specs.Total.{values_of}
+use Rattle.ch_pipe.specs.Entry.{KeyRoom}
 use mir.Val.{SFits}
 use Rattle.ch_pipe.proofs.access.is_key.Goals as goal
 use Rattle.ch_pipe.proofs.access.is_key.Goals.{After-is_same}

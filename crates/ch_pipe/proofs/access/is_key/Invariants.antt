@@ -1,7 +1,7 @@
 use Rattle.std.proofs.Common.{◌≡◌, drop, length}
 use Rattle.ch_ir.specs.Machine.{same_words}
-use Rattle.ch_pipe.specs.Agree.{values_of}
-use Rattle.ch_pipe.specs.Column.{KeyRoom}
+use Rattle.ch_pipe.specs.Total.{values_of}
+use Rattle.ch_pipe.specs.Entry.{KeyRoom}
 use Rattle.ch_pipe.proofs.access.is_key.Given as goal
 
 abbrev pub invariant-loop-at : goal.invariant-loop-at

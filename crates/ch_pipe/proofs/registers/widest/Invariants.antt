@@ -1,5 +1,5 @@
 use Rattle.std.proofs.Common.{◌≡◌, drop, max}
-use Rattle.ch_pipe.specs.Rooms.{widest}
+use Rattle.ch_pipe.specs.Installed.{widest}
 use Rattle.ch_pipe.proofs.registers.widest.Given as goal
 
 abbrev pub invariant-loop-array : goal.invariant-loop-array

@@ -1,5 +1,5 @@
 use Rattle.std.proofs.Common.{◌≡◌, ◌<◌, ℕ, drop, get_or, pos}
-use Rattle.ch_verify.specs.SoundAccess.{AllFits}
+use Rattle.ch_verify.specs.Fits.{AllFits}
 use Rattle.ch_pipe.proofs.step.write_row.Given as goal
 
 abbrev pub invariant-loop-at : goal.invariant-loop-at
@@ -7,6 +7,3 @@ invariant-loop-at l = record {
   each : (v : ℕ) → v < l.at → get_or l.words v (pos 0) ≡ get_or l.row v (pos 0);
   fits : AllFits (drop l.at l.row) → AllFits l.row;
 }
-
-abbrev pub invariant-loop-past : goal.invariant-loop-past
-invariant-loop-past l = (v : ℕ) → v < l.past → get_or l.words v (pos 0) ≡ get_or l.row v (pos 0)

@@ -1,6 +1,6 @@
 use Rattle.std.proofs.Common.{◌≡◌, drop}
 use Rattle.ch_ir.specs.Rules.{first_unknown}
-use Rattle.ch_verify.specs.Sound.{AllConstFit}
+use Rattle.ch_verify.specs.Fits.{AllConstFit}
 use Rattle.ch_verify.specs.Known.{known_of}
 use Rattle.ch_verify.proofs.access.unknown_among.Given as goal
 

@@ -3,8 +3,9 @@ use Rattle.std.proofs.lemmas.List.{drop_more}
 use Rattle.ch_ir.specs.declared.program.Update.{Update}
 use Rattle.ch_ir.specs.declared.program.Update.TheVariants.{Keep}
 use Rattle.ch_ir.specs.Rules.{Known, first_unknown, update_operand, update_operands}
-use Rattle.ch_verify.specs.Sound.{AllConstFit}
-use Rattle.ch_verify.specs.Known.{known_of, or_first, first_append, fits_append}
+use Rattle.ch_verify.specs.Fits.{AllConstFit}
+use Rattle.ch_verify.specs.Known.{known_of}
+use Rattle.ch_verify.proofs.Operands.{or_first, first_append, fits_append}
 use Rattle.ch_verify.proofs.access.unknown_in_updates.Goals as goal
 
 step : (ks : Known) (us : List Update) (i : ℕ) (u : Update) → i < length us

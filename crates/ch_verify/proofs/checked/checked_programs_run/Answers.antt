@@ -1,4 +1,4 @@
-use Rattle.ch_verify.specs.Checked.{accesses_apart, always_runs}
+use Rattle.ch_verify.proofs.Apart.{accesses_apart, always_runs}
 use Rattle.ch_verify.proofs.checked.checked_programs_run.Goals as goal
 
 pub returns-clause-runs : goal.returns-clause-runs

@@ -1,7 +1,7 @@
 use Rattle.std.proofs.Common.{◌≡◌, ◌≤◌, drop, length}
 use Rattle.ch_ir.specs.Measure.{ops_end}
 use Rattle.ch_ir.specs.Rules.{ops_refusal, after_ops}
-use Rattle.ch_verify.specs.Sound.{AllOpsFit}
+use Rattle.ch_verify.specs.Fits.{AllOpsFit}
 use Rattle.ch_verify.specs.Known.{known_of}
 use Rattle.ch_verify.proofs.known.ops_refusal.Given as goal
 

@@ -1,7 +1,7 @@
 use Rattle.std.proofs.Common.{◌≡◌, ◌≤◌, drop, length}
 use Rattle.ch_ir.specs.Measure.{stages_end}
 use Rattle.ch_ir.specs.Rules.{stages_refusal, after_stages}
-use Rattle.ch_verify.specs.SoundAccess.{AllStagesFit}
+use Rattle.ch_verify.specs.Fits.{AllStagesFit}
 use Rattle.ch_verify.specs.Known.{known_of, used_of}
 use Rattle.ch_verify.proofs.stages.stages_refusal.Given as goal
 
