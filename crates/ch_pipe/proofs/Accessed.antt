@@ -1,6 +1,5 @@
 -- What an access to one part of the flat registers makes of the arrays, and what a row makes of the words.
-use Rattle.std.proofs.Common.{◌≡◌, ◌<◌, ◌≤◌, ◌+◌, ◌*◌, ◌-◌, ◌++◌, ℕ, suc, true, List, [], ◌∷◌, ℤ, pos, refl, sym, ◌∙◌, ap, ap₂, arith, length, get_or, set, take, drop, replicate, inl, inr}
-use Rattle.std.specs.Prelude.{if◌then◌else◌}
+use Rattle.std.proofs.Common.{◌≡◌, ◌<◌, ◌≤◌, ◌+◌, ◌*◌, ◌-◌, ◌++◌, ℕ, suc, true, List, [], ◌∷◌, ℤ, pos, refl, sym, ◌∙◌, ap, arith, length, get_or, set, take, drop, replicate, inl, inr}
 use Rattle.std.proofs.lemmas.Bool.{cases_Bool, cases_lt}
 use Rattle.std.proofs.lemmas.Int.{to_z-of_z}
 use Rattle.std.proofs.lemmas.List.{get_or_append_left, get_or-append_right, get_or-replicate, get_or-take, get_or_past, length-replicate, length-take-le}
@@ -10,10 +9,10 @@ use Rattle.std.proofs.Common.{Bool, w64, to_z, of_z}
 use Rattle.ch_ir.specs.declared.program.Array.{Array}
 use Rattle.ch_ir.specs.declared.program.Update.{Update}
 use Rattle.ch_ir.specs.declared.program.Access.{Access}
-use Rattle.ch_ir.specs.Machine.{Registers, cells_of, is_set}
+use Rattle.ch_ir.specs.Machine.{cells_of, is_set}
 use Rattle.ch_ir.specs.Rules.{entries_of}
 use Rattle.ch_pipe.specs.Total.{value_at, nat_of, total_store, total_updates}
-use Rattle.ch_pipe.specs.Entry.{AccessRoom, entry_cells, hit_on, words_on, words_off, cells_on, total_registers, total_words}
+use Rattle.ch_pipe.specs.Entry.{AccessRoom, hit_on, words_on, cells_on, total_registers, total_words}
 use Rattle.ch_pipe.specs.Flat.{cut, all_cells, base_of}
 use Rattle.ch_pipe.proofs.Cuts.{cut_at, cut_set, inside, length_part}
 

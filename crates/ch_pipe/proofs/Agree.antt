@@ -1,5 +1,5 @@
 -- Where the machine has a value, it is what the pipeline computes.
-use Rattle.std.proofs.Common.{◌≡◌, ◌<◌, ◌≤◌, ℕ, ◌+◌, Bool, true, false, List, [], ◌∷◌, ℤ, pos, negsuc, ◌+ℤ◌, refl, sym, ◌∙◌, ap, ap₂, arith, Option, Some, None, length, get_or, set, inl, inr, ◌⊎◌, replicate, nat_lt, w64, subst}
+use Rattle.std.proofs.Common.{◌≡◌, ◌<◌, ◌≤◌, ℕ, ◌+◌, Bool, true, false, List, [], ◌∷◌, ℤ, pos, negsuc, ◌+ℤ◌, refl, sym, ◌∙◌, ap, ap₂, arith, Option, Some, None, length, get_or, set, inl, inr, ◌⊎◌, nat_lt, w64, subst}
 use Rattle.std.specs.Prelude.{if◌then◌else◌}
 use Rattle.std.specs.Option.{option_map, option_and_then}
 use Rattle.std.specs.Int.{saturate_signed, int_min, int_max, int_bit_or}
@@ -14,7 +14,7 @@ use Rattle.ch_ir.specs.declared.program.Access.{Access}
 use Rattle.ch_ir.specs.declared.program.Op.TheVariants.{Set, Two, Bit, Pick, Hash}
 use Rattle.ch_ir.specs.Hash.{hash_of}
 use Rattle.ch_ir.specs.Machine.{Words, Registers, State, put, put_all, read, read_all, read_words, cons_read, truth, is_set, two_of, bit_of, both, picked, op_to, op_value, exec_ops, updated, update_all, index_of, at_entry, holds_at}
-use Rattle.ch_pipe.specs.Entry.{entry_cells, hit_on, words_on, cells_on}
+use Rattle.ch_pipe.specs.Entry.{entry_cells, hit_on}
 use Rattle.ch_pipe.specs.Total.{values_of, nat_of, value_at, values_at, total_value, total_ops, total_update, total_updates, total_store}
 
 -- each value that a word has is the one in the list

@@ -1,5 +1,5 @@
 -- A flat list of cells cut up: its shape, one entry, what a write to one entry makes of it, and all cells 0.
-use Rattle.std.proofs.Common.{◌≡◌, ◌<◌, ◌≤◌, ℕ, zero, suc, ◌+◌, ◌*◌, ◌-◌, List, [], ◌∷◌, ◌++◌, ℤ, pos, refl, sym, ◌∙◌, ap, ap₂, arith, length, get_or, set, take, drop, replicate, add-one}
+use Rattle.std.proofs.Common.{◌≡◌, ◌<◌, ◌≤◌, ℕ, zero, suc, ◌+◌, ◌*◌, ◌-◌, List, [], ◌∷◌, ◌++◌, ℤ, pos, refl, sym, ◌∙◌, ap, ap₂, arith, length, get_or, set, take, drop, replicate}
 use Rattle.std.proofs.lemmas.List.{length-replicate, length-set, length-drop, drop-drop, take-replicate, drop-replicate, take-append-drop, take-set-le, drop-set-add, drop-set-lt, length-take-le}
 use Rattle.std.proofs.Math.Nat.{mul-le-mul_right}
 use Rattle.ch_ir.specs.declared.program.Array.{Array}

@@ -1,5 +1,5 @@
 -- A program that breaks no rule keeps the pipeline in range, and the pipeline has the machine's value.
-use Rattle.std.proofs.Common.{◌≡◌, ◌<◌, ◌≤◌, ℕ, ◌+◌, List, [], ◌∷◌, ℤ, refl, sym, ◌∙◌, ap, arith, Option, Some, None, length, get_or, inl, inr, subst}
+use Rattle.std.proofs.Common.{◌≡◌, ◌<◌, ℕ, ◌+◌, List, [], ◌∷◌, ℤ, refl, sym, ◌∙◌, ap, arith, Option, Some, None, length, get_or, inl, inr, subst}
 use Rattle.std.proofs.lemmas.Bool.{cases_lt}
 use Rattle.std.proofs.lemmas.List.{get_or_past}
 use Rattle.ch_ir.specs.declared.program.Array.{Array}
@@ -14,7 +14,6 @@ use Rattle.ch_verify.specs.Fits.{RegistersFit, AllStagesFit, AllAccessesFit}
 use Rattle.ch_verify.proofs.SoundAccess.{access_runs}
 use Rattle.ch_pipe.specs.Total.{total_ops, OpRoom, OpsRoom}
 use Rattle.ch_pipe.proofs.Agree.{Shows, shows_ops, length_ops, TosBelow}
-use Rattle.ch_pipe.specs.Entry.{AccessRoom}
 use Rattle.ch_pipe.specs.Stages.{Held, total_accesses, total_stages, AccessesCan, StagesCan, AccessesRoom, StagesRoom}
 use Rattle.ch_pipe.proofs.Whole.{access_went}
 

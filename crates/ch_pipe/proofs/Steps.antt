@@ -1,12 +1,11 @@
 -- One step of a pipeline that is ready.
-use Rattle.std.proofs.Common.{◌≡◌, ◌<◌, ◌≤◌, ℕ, ℤ, pos, sym, ◌∙◌, Option, Some, None, length, get_or, List, ap₂, subst, inl, inr, nat_lt}
+use Rattle.std.proofs.Common.{◌≡◌, ◌<◌, ℕ, ℤ, pos, sym, ◌∙◌, Option, Some, None, length, get_or, List, ap₂, subst, inl, inr, nat_lt}
 use Rattle.std.proofs.lemmas.Bool.{cases_Bool, ltb-true}
 use Rattle.ch_ir.specs.declared.program.Program.{Program}
 use Rattle.ch_ir.specs.Machine.{Registers, Outcome, given, machine, is_set}
 use Rattle.std.specs.Prelude.{is_some}
 use Rattle.ch_ir.specs.declared.rules.Refused.TheVariants as refused
 use Rattle.ch_ir.specs.Rules.{Known, none_used, stages_refusal, verdict_refusal, rule_refusal, inputs, after_stages}
-use Rattle.ch_verify.specs.Checked.{IsChecked}
 use Rattle.ch_verify.proofs.Sound.{none_else, needs_none}
 use Rattle.ch_verify.specs.Fits.{AllFits, RegistersFit}
 use Rattle.ch_verify.proofs.SoundAccess.{input_covers, known_value, ended}

@@ -1,22 +1,14 @@
 -- A checked program runs, and its accesses are apart.
-use Rattle.std.proofs.Common.{◌≡◌, ◌<◌, ◌≤◌, ℕ, ◌+◌, ◌-◌, ◌^◌, Bool, true, false, List, [], ◌∷◌, ◌++◌, ℤ, Option, Some, None, length, get_or, map, arith, inl, inr, refl}
+use Rattle.std.proofs.Common.{◌≡◌, ◌≤◌, ℕ, ◌+◌, Bool, true, false, List, [], ◌∷◌, ◌++◌, Some, None, length, map, arith, refl}
 use Rattle.std.specs.Prelude.{if◌then◌else◌}
-use mathlib.Core.Path.{fun_ext}
-use Rattle.std.proofs.lemmas.Bool.{cases_lt, le-ltb}
-use Rattle.std.proofs.lemmas.List.{get_or_past}
 use Rattle.ch_ir.specs.declared.program.Program.{Program}
-use Rattle.ch_ir.specs.declared.rules.Span.{Span}
-use Rattle.ch_ir.specs.Machine.{machine, Registers}
-use Rattle.ch_ir.specs.Measure.{most_ops}
-use Rattle.ch_ir.specs.Rules.{BreaksNoRule, inputs, none_used}
+use Rattle.ch_ir.specs.Rules.{inputs, none_used}
 use Rattle.ch_ir.specs.declared.program.Access.{Access}
 use Rattle.ch_ir.specs.declared.program.Array.{Array}
 use Rattle.ch_ir.specs.declared.program.Stage.{Stage}
 use Rattle.ch_ir.specs.declared.rules.Refused.{Refused}
 use Rattle.ch_ir.specs.declared.rules.Refused.TheVariants as refused
-use Rattle.ch_ir.specs.Rules.{Known, Used, with_array, with_arrays, accesses_refusal, after_ops, after_stage, ops_refusal, reach_refusal, rule_refusal, stage_refusal, stages_refusal}
-use Rattle.ch_verify.specs.Fits.{AllFits, RegistersFit}
-use Rattle.ch_verify.specs.Known.{known_of, used_of}
+use Rattle.ch_ir.specs.Rules.{Known, Used, with_arrays, accesses_refusal, after_ops, after_stage, ops_refusal, reach_refusal, rule_refusal, stage_refusal, stages_refusal}
 use Rattle.ch_verify.specs.Checked.{IsChecked, AlwaysRuns, OneAccessEach, arrays_accessed, AllNew, AccessesApart}
 use Rattle.ch_verify.proofs.Sound.{none_else}
 use Rattle.ch_verify.proofs.SoundAccess.{has_value}

@@ -1,5 +1,5 @@
 -- The ends of lists.
-use Rattle.std.proofs.Common.{◌≡◌, ◌<◌, ◌≤◌, ℕ, zero, suc, List, [], ◌∷◌, ◌++◌, refl, arith, max, length, get_or}
+use Rattle.std.proofs.Common.{◌≡◌, ◌<◌, ℕ, List, [], ◌∷◌, ◌++◌, arith, max, length}
 use Rattle.ch_ir.specs.declared.program.Operand.{Operand}
 use Rattle.ch_ir.specs.declared.program.Array.{Array}
 use Rattle.std.specs.Prelude.{nat_lt, true}

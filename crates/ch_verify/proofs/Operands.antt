@@ -1,11 +1,10 @@
 -- The first unknown word of two lists of operands, and the constants of both.
-use Rattle.std.proofs.Common.{◌≡◌, ℕ, Bool, false, List, [], ◌∷◌, refl, Option, Some, None, get_or, map, ◌++◌, inl, inr}
+use Rattle.std.proofs.Common.{◌≡◌, ℕ, List, [], ◌∷◌, refl, Option, Some, None, map, ◌++◌, inl, inr}
 use Rattle.ch_ir.specs.declared.program.Operand.TheVariants.{Word, Const}
-use Rattle.ch_ir.specs.declared.rules.Span.{Span}
 use Rattle.std.specs.Prelude.{is_some}
 use Rattle.std.proofs.lemmas.Bool.{cases_Bool}
 use Rattle.ch_ir.specs.declared.program.Operand.{Operand}
-use Rattle.ch_ir.specs.Rules.{Known, Used, first_unknown}
+use Rattle.ch_ir.specs.Rules.{Known, first_unknown}
 use Rattle.ch_verify.specs.Fits.{AllConstFit}
 
 -- words hold no constants

@@ -20,7 +20,7 @@ use Rattle.ch_ir.specs.declared.program.Op.TheVariants.{Set, Two, Bit, Pick, Has
 use Rattle.ch_ir.specs.Hash.{hash_of, hash_of-below}
 use Rattle.ch_ir.specs.Machine.{Words, put, read, read_words, truth, is_set, two_of, bit_of, both, picked, op_to, op_value, exec_ops}
 use Rattle.ch_ir.specs.Rules.{Known, learn, whole, flag, or_whole, span_of, two_span, hull, op_span, first_unknown, operands_of, has_modulus, word_refusal, operands_refusal, or_else, needs, op_refusal, ops_refusal, after_ops}
-use Rattle.ch_verify.specs.Fits.{ConstFits, AllConstFit, ModulusFits, OpFits, AllOpsFit}
+use Rattle.ch_verify.specs.Fits.{ConstFits, OpFits, AllOpsFit}
 
 -- a value within the span
 pub record Lies (s : Span) (o : Option ℤ) : Type 0 where

@@ -16,9 +16,9 @@ use Rattle.ch_ir.specs.declared.rules.Refused.TheVariants as refused
 use Rattle.ch_ir.specs.declared.program.Access.{Access}
 use Rattle.ch_ir.specs.declared.program.Stage.{Stage}
 use Rattle.ch_ir.specs.declared.program.Program.{Program}
-use Rattle.ch_ir.specs.Machine.{Words, Registers, State, put, put_all, read, read_all, truth, is_set, updated, update_all, index_of, at_entry, exec_access, exec_accesses, exec_stage, exec_stages, cells_of, holds_at, given, machine, Outcome, ends}
+use Rattle.ch_ir.specs.Machine.{Words, Registers, State, put, put_all, read, read_all, truth, is_set, updated, update_all, index_of, at_entry, exec_access, exec_accesses, exec_stage, exec_stages, cells_of, holds_at, given, machine, ends}
 use Rattle.ch_ir.specs.Rules.{Known, learn, whole, flag, span_of, first_unknown, operands_refusal, needs, update_operands, entries_of, access_operands, has_shape, range_refusal, reach_refusal, access_refusal, accesses_refusal, ops_refusal, stage_refusal, stages_refusal, verdict_refusal, rule_refusal, Used, none_used, with_arrays, after_old, after_access, after_accesses, after_ops, after_stage, after_stages, inputs, key_words, test_fits, BreaksNoRule}
-use Rattle.ch_verify.specs.Fits.{AllConstFit, AllOpsFit, AllFits, RegistersFit, AllAccessesFit, StageFits, AllStagesFit}
+use Rattle.ch_verify.specs.Fits.{AllConstFit, AllFits, RegistersFit, AllAccessesFit, StageFits, AllStagesFit}
 use Rattle.ch_verify.specs.Checked.{HasValue}
 use Rattle.ch_verify.proofs.Sound.{Lies, Covered, Covers, ops_run, covers_put, known_head, lies_at, saturated_fits, signed_fits, none_else, needs_none, no_unknown, le_true, within_whole, truth_lies}
 

@@ -1,8 +1,7 @@
-use Rattle.std.proofs.Common.{◌≡◌, ◌<◌, ℕ, ℤ, List, ◌+◌, ◌*◌, true, arith, ap₂, length, get_or, take, drop, ◌∙◌}
+use Rattle.std.proofs.Common.{◌≡◌, ℕ, ℤ, List, ◌+◌, ◌*◌, true, arith, ap₂, length, get_or, take, drop, ◌∙◌}
 use Rattle.ch_ir.specs.declared.program.Access.{Access}
 use Rattle.ch_ir.specs.declared.program.Array.{Array}
 use Rattle.ch_ir.specs.Machine.{cells_of, is_set}
-use Rattle.ch_ir.specs.Rules.{entries_of}
 use Rattle.ch_pipe.specs.Total.{nat_of, value_at, total_store}
 use Rattle.ch_pipe.specs.Entry.{cells_on, words_on}
 use Rattle.ch_pipe.specs.Flat.{base_of}

@@ -1,11 +1,11 @@
-use Rattle.std.proofs.Common.{◌≡◌, ◌<◌, ◌≤◌, ◌+◌, ◌*◌, ℕ, ℤ, List, [], pos, arith, ap, ap₂, refl, sym, length, get_or, take, drop, ◌∙◌, rules, w64, Fits, to_z, of_z}
+use Rattle.std.proofs.Common.{◌≡◌, ◌<◌, ◌+◌, ◌*◌, ℕ, ℤ, List, pos, arith, ap, ap₂, sym, length, get_or, drop, ◌∙◌, rules, w64}
 use Rattle.std.proofs.lemmas.Int.{to_z-of_z}
 use Rattle.std.proofs.lemmas.List.{get_or-take, get_or-drop}
 use mir.Val.{SFits}
 use Rattle.ch_ir.specs.declared.program.Array.{Array}
 use Rattle.ch_ir.specs.Machine.{cells_of}
 use Rattle.ch_ir.specs.Rules.{entries_of}
-use Rattle.ch_pipe.specs.Flat.{base_of, cut, IsLaid}
+use Rattle.ch_pipe.specs.Flat.{base_of, IsLaid}
 use Rattle.ch_pipe.proofs.Cuts.{base_is, base_there, cut_at, inside}
 use Rattle.ch_pipe.proofs.registers.cell.Goals as goal
 

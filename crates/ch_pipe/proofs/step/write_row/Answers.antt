@@ -1,4 +1,4 @@
-use Rattle.std.proofs.Common.{◌≡◌, ◌<◌, ◌-◌, ℕ, ℤ, List, pos, arith, ap, get_or, length, replicate, take, drop, ◌∙◌}
+use Rattle.std.proofs.Common.{◌≡◌, ◌-◌, ℕ, ℤ, List, pos, arith, ap, length, replicate, take, drop, ◌∙◌}
 use Rattle.ch_pipe.proofs.Accessed.{row_padded}
 use Rattle.ch_pipe.proofs.Cuts.{length_part}
 use Rattle.ch_pipe.proofs.step.write_row.Goals as goal

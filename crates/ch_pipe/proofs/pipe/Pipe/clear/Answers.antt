@@ -3,7 +3,7 @@ use Rattle.std.proofs.lemmas.List.{with_items_is, length-replicate}
 use Rattle.std.specs.declared.vec.Vec.{Vec}
 use Rattle.std.specs.declared.alloc.Global.{Global}
 use Rattle.ch_ir.specs.declared.program.Array.{Array}
-use Rattle.ch_ir.specs.Machine.{Registers, cleared}
+use Rattle.ch_ir.specs.Machine.{cleared}
 use Rattle.ch_verify.specs.Fits.{RegistersFit}
 use Rattle.ch_pipe.specs.Flat.{cut}
 use Rattle.ch_pipe.specs.Installed.{Installed}
@@ -31,7 +31,7 @@ invariant_of-self c =
     let arrays : List Array = c.self.inside.checked.arrays in (
       record { bases_are = c.self.invariant.0.bases_are; size_is = n ∙ c.self.invariant.0.size_is },
       ready_with c.self.inside.checked (length c.self.inside.words.items) (length c.self.inside.room.items) (cut arrays c.self.inside.registers.items) _ c.self.invariant.1
-      (subst (RegistersFit arrays) (sym m) (cleared_fit arrays)),
+          (subst (RegistersFit arrays) (sym m) (cleared_fit arrays)),
     )
 
 pub returns-clause-registers : goal.returns-clause-registers

@@ -34,10 +34,11 @@ invariant_of-result c =
     ∙ c.widest.ensures ∙ ap widest c.as_slice.ensures ∙ ap (λ (q : Program). widest q.arrays) same in
     let given = c.as_slice-2.ensures ∙ ap (λ (q : Program). q.arrays) same in
     let zero = c.in_ok-registers.ensures in
-    let registers : cut p.arrays c.in_ok-registers.registers.items ≡ cleared p.arrays = zero_cut p.arrays _ _ _ c.in_ok-registers.registers.items c.in_ok-layout.ensures given zero in
-    (laid_at p.arrays _ _ _ c.in_ok-registers.registers.items c.in_ok-layout.ensures given zero,
+    let registers : cut p.arrays c.in_ok-registers.registers.items ≡ cleared p.arrays = zero_cut p.arrays _ _ _ c.in_ok-registers.registers.items c.in_ok-layout.ensures given zero in (
+      laid_at p.arrays _ _ _ c.in_ok-registers.registers.items c.in_ok-layout.ensures given zero,
       ready p (length c.in_ok-words.words.items) (length c.in_ok-room.room.items) (cut p.arrays c.in_ok-registers.registers.items) c.program-program.ensures.checked words room
-      (subst (RegistersFit p.arrays) (sym registers) (cleared_fit p.arrays)))
+          (subst (RegistersFit p.arrays) (sym registers) (cleared_fit p.arrays)),
+    )
 
 pub returns-clause-registers : goal.returns-clause-registers
 returns-clause-registers c =
