@@ -1,2 +1,4 @@
-pub mod Results
-mod RoundTrip
+mod Columned
+mod Forming
+pub mod Readings
+mod Results

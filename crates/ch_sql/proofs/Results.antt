@@ -11,7 +11,9 @@ use Rattle.ch_sql_places.specs.Parsing.{parse_at, Moves}
 use Rattle.ch_sql_places.proofs.Refused.{refusals}
 use Rattle.ch_sql_limits.specs.Limits.{IsQueryWithin}
 use Rattle.ch_sql_limits.proofs.Within.{within_read, read_within}
-use Rattle.ch_sql.specs.Parsed.{seen, IsParsed, IsParseError, Parses}
+use Rattle.ch_sql_places.specs.Refusal.{IsRefusal}
+use Rattle.ch_sql_limits.specs.Texts.{seen}
+use Rattle.ch_sql.specs.Parsed.{Parses}
 
 abbrev Answered : List Tok → Result Query ParseError → Type 0
 Answered toks r = Moves (parse_at toks start 0) (λ q. Ok (select_of q)) r
@@ -19,15 +21,15 @@ Answered toks r = Moves (parse_at toks start 0) (λ q. Ok (select_of q)) r
 seen_answered : (toks : List Tok) (tokens : List Token) (r : Result Query ParseError) → toks ≡ seen tokens → Answered toks r → Answered (seen tokens) r
 seen_answered toks tokens r same m = let P : List Tok → Type 0 = λ ts. Answered ts r in subst P same m
 
-parsed_so : (tokens : List Token) (r : Result Query ParseError) → Answered (seen tokens) r → IfOk r (IsParsed tokens)
+parsed_so : (tokens : List Token) (r : Result Query ParseError) → Answered (seen tokens) r → IfOk r (λ q. IsQueryWithin (seen tokens) (select_of q))
 unfolding parse_at
-parsed_so tokens (Ok q) m = record { derived = read_within (seen tokens) (select_of q) m; taken = m }
+parsed_so tokens (Ok q) m = read_within (seen tokens) (select_of q) m
 parsed_so tokens (Err e) m = tt
 
-refused_so : (tokens : List Token) (r : Result Query ParseError) → Answered (seen tokens) r → IfErr r (IsParseError tokens)
+refused_so : (tokens : List Token) (r : Result Query ParseError) → Answered (seen tokens) r → IfErr r (IsRefusal (seen tokens))
 unfolding parse_at
 refused_so tokens (Ok q) m = tt
-refused_so tokens (Err e) m = record { first = refusals (seen tokens) (Err e) m; answered = m }
+refused_so tokens (Err e) m = refusals (seen tokens) (Err e) m
 
 only_so : (tokens : List Token) (r : Result Query ParseError) (tree : Select) → parse_from start 0 (seen tokens) ≡ Ok tree → Answered (seen tokens) r → Parses tree r
 unfolding parse_at
@@ -38,10 +40,10 @@ only_so tokens (Err (error.TooDeep at)) tree is m = cc
 only_so tokens (Err (error.InTooLong at)) tree is m = cc
 only_so tokens (Err (error.BadLike at)) tree is m = cc
 
-pub parsed : (toks : List Tok) (tokens : List Token) (r : Result Query ParseError) → toks ≡ seen tokens → Answered toks r → IfOk r (IsParsed tokens)
+pub parsed : (toks : List Tok) (tokens : List Token) (r : Result Query ParseError) → toks ≡ seen tokens → Answered toks r → IfOk r (λ q. IsQueryWithin (seen tokens) (select_of q))
 parsed toks tokens r same m = parsed_so tokens r (seen_answered toks tokens r same m)
 
-pub refused : (toks : List Tok) (tokens : List Token) (r : Result Query ParseError) → toks ≡ seen tokens → Answered toks r → IfErr r (IsParseError tokens)
+pub refused : (toks : List Tok) (tokens : List Token) (r : Result Query ParseError) → toks ≡ seen tokens → Answered toks r → IfErr r (IsRefusal (seen tokens))
 refused toks tokens r same m = refused_so tokens r (seen_answered toks tokens r same m)
 
 pub only : (toks : List Tok) (tokens : List Token) (r : Result Query ParseError) → toks ≡ seen tokens → Answered toks r → (tree : Select) → IsQueryWithin (seen tokens) tree → Parses tree r

@@ -3,14 +3,13 @@
 #![tactic(auto)]
 
 use ch_cells::{Bytes, Listed, Memory};
-use ch_sql::{ColumnRef, Item, Pred, Query, Source, Tail, lex, parse, print};
+use ch_sql::{ColumnRef, Item, Pred, Query, Source, Tail, print, read_query};
 use std::alloc::Global;
 use std::str;
 
 /// The text of the query that a text is.
 fn printed(alloc: Global, text: &[u8]) -> anyhow::Result<Bytes> {
-    let tokens = lex(alloc, text)?;
-    let query = parse(alloc, &tokens)?;
+    let query = read_query(alloc, text)?;
     let text = print(alloc, &query);
     drop(query);
     Ok(text?)

@@ -19,8 +19,9 @@ use Rattle.ch_sql_grammar.specs.Tree.{Plain, plains, all_of, any_of, Select}
 use Rattle.ch_sql_grammar.specs.Grammar as grammar
 use Rattle.ch_sql_grammar.specs.Grammar.{Pred, conj, or, Conj, neg, and, Neg, parens, atom, Form, IsQuery, Ending, top, group, skyline, each, col_tokens, item_tokens, dim_tokens, items_tokens, direction_tokens, endings_tokens, endings_tree, is_descending, form_tokens, form_tree, pred_tokens, conj_tokens, neg_tokens, atom_tokens, atom_tree, conj_trees, neg_trees, neg_tree, pred_tree, conj_tree}
 use Rattle.ch_sql_limits.specs.Limits.{IsQueryWithin}
+use Rattle.ch_sql_limits.specs.Texts.{seen, Spells}
 use Rattle.ch_sql_text.specs.Printed.{when, marked_off, joined, in_parens, is_or, is_and_or, filter_tokens, and_members, or_members, where_tokens, tail_tokens, printed_tokens, query_text}
-use Rattle.ch_sql_text.specs.Law.{IsSpellable, IsReadAgain, text_tokens}
+use Rattle.ch_sql_text.specs.Law.{IsSpellable, text_tokens}
 use Rattle.ch_sql_text.proofs.Listing.{joined_each}
 use Rattle.ch_sql_text.proofs.Derived.{within_tokens}
 use Rattle.ch_sql_text.proofs.Forms.{closed, derived_within}
@@ -194,16 +195,12 @@ spelled_again : (tokens : List Token) (form : Form) (q : Select) → All IsToken
 spelled_again tokens form q all s e =
     All-from_recursion IsSpellable (printed_tokens q) (subst (λ t. AreSpellable (printed_tokens t)) (sym e) (query_spellable (map tok_of tokens) form s (toks_spellable tokens (recursion_from_All IsToken tokens all))))
 
-pub spellable : (tokens : List Token) (q : Select) → All IsToken tokens → IsQuery (map tok_of tokens) q → All IsSpellable (printed_tokens q)
-spellable tokens q all h = spelled_again tokens h.form q all h.spelled h.stands_for
-
-pub read_again : (tokens : List Token) (q : Select) → All IsToken tokens → IsQueryWithin (map tok_of tokens) q → IsQueryText (query_text q) → IsReadAgain q (text_tokens q)
+pub read_again : (tokens : List Token) (q : Select) → All IsToken tokens → IsQueryWithin (seen tokens) q → IsQueryText (query_text q) → Spells (query_text q) q
 read_again tokens q all h short =
     let spelled = spelled_again tokens h.form q all h.spelled h.stands_for in
-    let scanned = lexed (printed_tokens q) spelled in
     record {
-      are_tokens = All-from_recursion IsToken (text_tokens q) (are_tokens (printed_tokens q) (recursion_from_All IsSpellable (printed_tokens q) spelled));
-      lexed = (scans_tokens (query_text q) (Ok (text_tokens q)) short scanned).1;
-      scanned = scanned;
+      tokens = text_tokens q;
+      short = short;
+      lexed = (scans_tokens (query_text q) (Ok (text_tokens q)) short (lexed (printed_tokens q) spelled)).1;
       derived = subst (λ ts. IsQueryWithin ts q) (sym (all_seen (printed_tokens q))) (derived_within (map tok_of tokens) q h);
     }

@@ -1,19 +1,13 @@
--- Which printed tokens a text can spell, and what reading it gives.
-use Rattle.std.specs.Prelude.{◌≡◌, ◌≤◌, ◌≢◌, List, [], Ok, map}
-use Rattle.std.specs.List.{All}
+-- Which printed tokens a text can spell.
+use Rattle.std.specs.Prelude.{◌≤◌, ◌≢◌, List, [], map}
 use Rattle.std.specs.Int.RustNames.{unsigned_abs}
 use Rattle.ch_cells.specs.Number.{most}
 use Rattle.ch_sql_tokens.specs.declared.token.Token.{Token}
-use Rattle.ch_sql_tokens.specs.Spelling.{IsToken}
-use Rattle.ch_sql_tokens.specs.Lexed.{IsLexed}
-use Rattle.ch_sql_tokens.specs.Scan.{lex_of}
 use Rattle.ch_sql_grammar.specs.declared.tok.Tok.{Tok}
 use Rattle.ch_sql_grammar.specs.declared.tok.Tok.TheVariants as tok
-use Rattle.ch_sql_grammar.specs.Tokens.{tok_of}
 use Rattle.ch_sql_grammar.specs.Tree.{Select}
-use Rattle.ch_sql_limits.specs.Limits.{IsQueryWithin}
 use Rattle.ch_sql_text.specs.Spelled.{printed_token}
-use Rattle.ch_sql_text.specs.Printed.{printed_tokens, query_text}
+use Rattle.ch_sql_text.specs.Printed.{printed_tokens}
 
 -- A name isn't empty, and a number is in the range of cells.
 abbrev pub IsSpellable : Tok → Type 0
@@ -25,10 +19,3 @@ IsSpellable (tok.Text text) = Unit {0}
 -- the tokens that stand in the query's text
 abbrev pub text_tokens : Select → List Token
 text_tokens q = map printed_token (printed_tokens q)
-
--- the query's text stands for these tokens, as the lexer makes them, and they derive the query within the limits
-pub record IsReadAgain (q : Select) (tokens : List Token) : Type 0 where
-  pub are_tokens : All IsToken tokens
-  pub lexed : IsLexed (query_text q) tokens
-  pub scanned : lex_of (query_text q) ≡ Ok tokens
-  pub derived : IsQueryWithin (map tok_of tokens) q

@@ -11,8 +11,5 @@ mod spelled;
 mod text;
 mod writer;
 
-pub use laws::{
-    derived_queries_are_spellable, printed_queries_are_derived, printed_text_is_lexed,
-    printed_tokens_derive,
-};
+pub use laws::printed_queries_are_read_again;
 pub use printer::print;

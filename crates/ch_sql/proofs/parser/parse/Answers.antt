@@ -1,6 +1,6 @@
 use Rattle.std.proofs.Common.{◌≡◌, ◌∙◌, ap, map}
 use Rattle.ch_sql_grammar.specs.Tokens.{tok_of}
-use Rattle.ch_sql.specs.Parsed.{seen}
+use Rattle.ch_sql_limits.specs.Texts.{seen}
 use Rattle.ch_sql.proofs.Results.{parsed, refused, only}
 use Rattle.ch_sql.proofs.parser.parse.Goals as goal
 
