@@ -1,5 +1,5 @@
 ghost use Rattle.std.specs.Prelude.{◌≡◌, ℕ, suc, ◌+◌, ◌<◌, ◌≤◌, ◌^◌, ◌&&◌, nat_lt, true, false, if◌then◌else◌, length, IfOk};
-ghost use Rattle.ch_protocol.specs.Sender.{least_open, may_send, next_number, open_at, acknowledge, is_current, cut_to_least, acknowledged, is_done, first_number, none_acked};
+ghost use Rattle.ch_protocol.specs.Sender.{least_open, may_send, next_number, open_at, open_numbers, acknowledge, is_current, cut_to_least, acknowledged, is_done, first_number, none_acked};
 ghost use Rattle.ch_ends.specs.Bits.{has_bit};
 
 use crate::bits::Bits;
@@ -76,6 +76,16 @@ impl Worker {
         None
     }
 
+    /// The number that `next` would give.
+    pub fn peek(&self) -> Option<u32>
+        ensures { result ≡ next_number self.now.rows self.now.window self.now.next (acked_of self.now) }
+    {
+        if self.may_send() {
+            return Some(self.next);
+        }
+        None
+    }
+
     // Whether the next number may be sent: a row's within the window, or the Fin's after all rows.
     fn may_send(&self) -> bool
         ensures { result ≡ may_send self.now.rows self.now.window self.now.next (acked_of self.now) }
@@ -140,6 +150,19 @@ impl Worker {
         let mut count = self.least;
         for number in self.least..self.next {
             if self.acked.get(number as usize) {
+                count += 1;
+            }
+        }
+        count
+    }
+
+    /// How many sent numbers aren't acknowledged. Costs no more than the window.
+    pub fn unacknowledged(&self) -> u32
+        ensures { result ≡ length (open_numbers self.now.next (acked_of self.now)) }
+    {
+        let mut count = 0;
+        for number in self.least..self.next {
+            if !self.acked.get(number as usize) {
                 count += 1;
             }
         }

@@ -6,7 +6,7 @@ use Rattle.std.specs.List.{flat_map}
 use Rattle.std.proofs.Math.Facts.{Fits-of_z, Fits-of_lt, sfits_to_z}
 use Rattle.std.proofs.Math.Nat.{div-eq_of_eq-mul_right}
 use Rattle.std.proofs.lemmas.Int.{to_z-of_z, of_z-to_z}
-use Rattle.std.proofs.lemmas.List.{get_or-take, get_or-drop, get_or_past, length-take, length-take-le, take-append-drop, take_all, drop-drop}
+use Rattle.std.proofs.lemmas.List.{get_or-take, get_or-drop, get_or_past, length-take, length-take-le, take-append-drop, take_all, drop-drop, append_assoc}
 use Rattle.std.proofs.lemmas.List.Elements.{All-head, All-tail, All-cons, All-nil}
 use Rattle.std.proofs.lemmas.Bool.{cases_lt}
 use Rattle.std.proofs.lemmas.Nat.{be_bytes_8, from_be_bytes-to_be_bytes_8}
@@ -117,3 +117,13 @@ slice_get-words_of body chunk i at number word whole there place bytes reads sma
     let back : cast_signed w64 (cast_unsigned w64 word) ≡ cast_signed w64 number
     = ap (λ z. cast_signed w64 (cast_unsigned w64 z)) shows ∙ ap (cast_signed w64) (of_z-to_z w64 number small) in
     slice_get-words_from (length body / 8) i body below ∙ ap Some (sym (back ∙ ap (cast_signed w64) read))
+
+-- the front of a list with one more of its items
+take_more : {A : Type 0} (xs : List A) (i : ℕ) (x : A) → slice_get xs i ≡ Some x → take (i + 1) xs ≡ take i xs ++ x ∷ []
+take_more [] i x h = absurd cc
+take_more (y ∷ ys) zero x h = let e : y ≡ x = cc in ap (λ z. z ∷ []) e
+take_more (y ∷ ys) (suc i) x h = let e : suc i + 1 ≡ suc (i + 1) = omega arith in rw e (ap (λ zs. y ∷ zs) (take_more ys i x h))
+
+-- behind a front
+pub more_behind : {A : Type 0} (front xs items : List A) (i : ℕ) (x : A) → items ≡ front ++ take i xs → slice_get xs i ≡ Some x → items ++ x ∷ [] ≡ front ++ take (i + 1) xs
+more_behind front xs items i x e h = ap (λ ys. ys ++ x ∷ []) e ∙ (append_assoc front (take i xs) (x ∷ []) ∙ ap (λ ys. front ++ ys) (sym (take_more xs i x h)))

@@ -1,4 +1,4 @@
-ghost use Rattle.std.specs.Prelude.{◌≡◌, ◌<◌, ◌≤◌, drop, None, Some, length, slice_get, slice_index, IfNone, IfOk, IsOkAnd, MatchResult};
+ghost use Rattle.std.specs.Prelude.{◌≡◌, ◌<◌, ◌≤◌, ◌+◌, ◌++◌, drop, None, Some, length, slice_get, slice_index, vec_capacity, vec_len, IfNone, IfOk, IsOkAnd, MatchResult};
 ghost use Rattle.ch_packet.specs.Fault.{AreSound, IsSound, fault_after_kind, fault_of, kind_of};
 ghost use Rattle.ch_packet.specs.Packet.{IsPacket, most_bit, most_words};
 ghost use Rattle.ch_packet.specs.Spelling.{spelling};
@@ -169,5 +169,18 @@ impl<'a> PacketView<'a> {
         let at = 8 * usize::from(i);
         let bytes = self.body[at..].first_chunk::<8>().unwrap();
         u64::from_be_bytes(*bytes).cast_signed()
+    }
+
+    /// Puts the words behind those of a row that has room for them. Takes no memory.
+    #[tactic(auto, using(crate::proofs::Words::more_behind))]
+    pub fn append_words(&self, row: &mut Vec<i64>)
+        requires view { IsView self.now }
+        requires room { vec_len row.old + length (packet_of self.now).words ≤ vec_capacity row.old }
+        ensures row { row.new.items ≡ row.old.items ++ (packet_of self.now).words }
+        ensures room { vec_capacity row.new ≡ vec_capacity row.old }
+    {
+        for i in 0..self.len() {
+            row.push_reserved(self.word(i));
+        }
     }
 }
