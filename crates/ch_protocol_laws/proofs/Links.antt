@@ -42,14 +42,16 @@ known_sent c p next next' x more k = record {
 }
 
 module _ (c : Config) (s : State) (i : IsSound c s) where
-  pub with_up : (up' : List Packet) (n : Counts) → Each (IsOnUp c s.pass s.epoch s.next) up' → IsSound c (record s { up = up'; counts = n })
-  with_up up' n h = record {
+  -- other links and counts, where each of their packets is as those of a sound state
+  with_links : (up' down' : List Packet) (back' : List Ack) (n : Counts) → Each (IsOnUp c s.pass s.epoch s.next) up' → Each (IsOnDown c s.pass s.epoch s.next s.expected) down'
+      → Each (IsOnBack c s.pass s.epoch s.next s.expected s.received s.processed) back' → IsSound c (record s { up = up'; down = down'; back = back'; counts = n })
+  with_links up' down' back' n u d b = record {
     in_range = i.in_range;
     numbered = i.numbered;
     settled = i.settled;
-    up = h;
-    down = i.down;
-    back = i.back;
+    up = u;
+    down = d;
+    back = b;
     lawful = i.lawful;
     entries = i.entries;
     latest = i.latest;
@@ -57,38 +59,15 @@ module _ (c : Config) (s : State) (i : IsSound c s) where
     taken = i.taken;
     once = i.once;
   }
+
+  pub with_up : (up' : List Packet) (n : Counts) → Each (IsOnUp c s.pass s.epoch s.next) up' → IsSound c (record s { up = up'; counts = n })
+  with_up up' n h = with_links up' s.down s.back n h i.down i.back
 
   pub with_down : (down' : List Packet) (n : Counts) → Each (IsOnDown c s.pass s.epoch s.next s.expected) down' → IsSound c (record s { down = down'; counts = n })
-  with_down down' n h = record {
-    in_range = i.in_range;
-    numbered = i.numbered;
-    settled = i.settled;
-    up = i.up;
-    down = h;
-    back = i.back;
-    lawful = i.lawful;
-    entries = i.entries;
-    latest = i.latest;
-    complete = i.complete;
-    taken = i.taken;
-    once = i.once;
-  }
+  with_down down' n h = with_links s.up down' s.back n i.up h i.back
 
   pub with_back : (back' : List Ack) (n : Counts) → Each (IsOnBack c s.pass s.epoch s.next s.expected s.received s.processed) back' → IsSound c (record s { back = back'; counts = n })
-  with_back back' n h = record {
-    in_range = i.in_range;
-    numbered = i.numbered;
-    settled = i.settled;
-    up = i.up;
-    down = i.down;
-    back = h;
-    lawful = i.lawful;
-    entries = i.entries;
-    latest = i.latest;
-    complete = i.complete;
-    taken = i.taken;
-    once = i.once;
-  }
+  with_back back' n h = with_links s.up s.down back' n i.up i.down h
 
   pub with_counts : (n : Counts) → IsSound c (record s { counts = n })
   with_counts n = with_up s.up n i.up
