@@ -8,7 +8,7 @@ use Rattle.ch_sql_grammar.specs.declared.query.Query.{Query}
 use Rattle.ch_sql_grammar.specs.Tree.{Select, select_of}
 use Rattle.ch_sql_places.specs.Machine.{parse_from, start}
 use Rattle.ch_sql_places.specs.Parsing.{parse_at, Moves}
-use Rattle.ch_sql_places.proofs.Refused.{refusals}
+use Rattle.ch_sql_places.proofs.Judged.{refusals}
 use Rattle.ch_sql_limits.specs.Limits.{IsQueryWithin}
 use Rattle.ch_sql_limits.proofs.Within.{within_read, read_within}
 use Rattle.ch_sql_places.specs.Refusal.{IsRefusal}

@@ -9,7 +9,9 @@ use Rattle.ch_sql_grammar.specs.Tokens.{has_mark, text_in}
 use Rattle.ch_sql_grammar.specs.Grammar.{Begins, IsEnd}
 use Rattle.ch_sql_places.specs.Machine.{Place, Want, Listed, LikeText, depth_of, is_prefix, step, limit, finish, answer, start, goes, ends, parse_from}
 use Rattle.ch_sql_places.specs.Completion.{completion}
-use Rattle.ch_sql_places.specs.Refusal.{passes, pass, IsSyntax, IsLimit, IsRefusal}
+use Rattle.ch_sql_places.specs.Refusal.{IsRefusal}
+use Rattle.ch_sql_places.proofs.Passing.{passes, pass, StopsAt, LimitedBy, IsGiven}
+use Rattle.ch_sql_places.proofs.Judged.{judged, given_back}
 use Rattle.ch_sql_places.proofs.Complete.{completes}
 use Rattle.ch_sql_places.proofs.Walked.{complete}
 use Rattle.ch_sql_places.proofs.Sound.{sound}
@@ -60,7 +62,7 @@ syntax_at : (front rest : List Tok) (last : Place) → pass start 0 front ≡ So
 syntax_at front [] last h end = ended (finish last) front last (length front) refl h end
 syntax_at front (t ∷ ts) last h end = stopped (step last t) (limit last (length front) t) front ts t last (length front) refl h end
 
-syntax_given : (tokens : List Tok) (at : ℕ) → IsSyntax tokens at → parse_from start 0 tokens ≡ Err (error.Syntax at)
+syntax_given : (tokens : List Tok) (at : ℕ) → StopsAt tokens at → parse_from start 0 tokens ≡ Err (error.Syntax at)
 syntax_given tokens at r =
     ap (parse_from start 0) r.whole
     ∙ carried r.front r.rest start r.place 0 (length r.front) (let n : length r.front ≡ 0 + length r.front = omega arith in n) r.taken
@@ -83,19 +85,22 @@ limited_here (Some place) (Some f) e next at ts q k = ap Err (let m : f ≡ e = 
 limited_here (Some place) None e next at ts q k = cc
 limited_here None l e next at ts q k = cc
 
-limit_given : (tokens : List Tok) (e : ParseError) → IsLimit tokens e → parse_from start 0 tokens ≡ Err e
+limit_given : (tokens : List Tok) (e : ParseError) → LimitedBy tokens e → parse_from start 0 tokens ≡ Err e
 limit_given tokens e r =
     let on = leads_on (step r.place r.token) r.front r.token r.place refl r.taken r.begins in
     ap (parse_from start 0) r.whole
     ∙ carried r.front (r.token ∷ r.rest) start r.place 0 (length r.front) (let n : length r.front ≡ 0 + length r.front = omega arith in n) r.taken
     ∙ limited_here (step r.place r.token) (limit r.place (length r.front) r.token) e on.0 (length r.front) r.rest on.1 r.limited
 
+given_by : (tokens : List Tok) (e : ParseError) → e ≢ error.Memory → IsGiven tokens e → parse_from start 0 tokens ≡ Err e
+given_by tokens error.Memory n r = absurd (n refl)
+given_by tokens (error.Syntax at) n r = syntax_given tokens at r
+given_by tokens (error.TooDeep at) n r = limit_given tokens _ r
+given_by tokens (error.InTooLong at) n r = limit_given tokens _ r
+given_by tokens (error.BadLike at) n r = limit_given tokens _ r
+
 pub given : (tokens : List Tok) (e : ParseError) → e ≢ error.Memory → IsRefusal tokens e → parse_from start 0 tokens ≡ Err e
-given tokens error.Memory n r = absurd (n refl)
-given tokens (error.Syntax at) n r = syntax_given tokens at r
-given tokens (error.TooDeep at) n r = limit_given tokens _ r
-given tokens (error.InTooLong at) n r = limit_given tokens _ r
-given tokens (error.BadLike at) n r = limit_given tokens _ r
+given tokens e n r = given_by tokens e n (given_back tokens e r)
 
 pub one : (tokens : List Tok) (a b : ParseError) → a ≢ error.Memory → b ≢ error.Memory → IsRefusal tokens a → IsRefusal tokens b → a ≡ b
 one tokens a b m n p q = let h : parse_from start 0 tokens ≡ Err a = given tokens a m p in let k : parse_from start 0 tokens ≡ Err b = given tokens b n q in cc
@@ -143,7 +148,7 @@ own (t ∷ ts) place at h = own_step (step place t) (limit place at t) at ts (ow
 
 by_result : (tokens : List Tok) (r : Result Select ParseError) → parse_from start 0 tokens ≡ r → ((tree : Select) × IsQueryWithin tokens tree) ⊎ ((e : ParseError) × (e ≢ error.Memory) × IsRefusal tokens e)
 by_result tokens (Ok tree) h = inl (tree, read_within tokens tree h)
-by_result tokens (Err e) h = inr (e, (λ m. own tokens start 0 (h ∙ ap Err m)), why_refused tokens e h)
+by_result tokens (Err e) h = inr (e, (λ m. own tokens start 0 (h ∙ ap Err m)), judged tokens e (why_refused tokens e h))
 
 pub either : (tokens : List Tok) → ((tree : Select) × IsQueryWithin tokens tree) ⊎ ((e : ParseError) × (e ≢ error.Memory) × IsRefusal tokens e)
 either tokens = by_result tokens (parse_from start 0 tokens) refl

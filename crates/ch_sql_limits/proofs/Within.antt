@@ -1,81 +1,101 @@
 -- The places read a list of tokens exactly where a derivation within the limits spells it.
-use Rattle.std.proofs.Common.{◌≡◌, ℕ, ◌+◌, Bool, true, false, not, ◌&&◌, ◌||◌, nat_lt, if◌then◌else◌, is_none, List, [], ◌∷◌, ◌++◌, length, Option, Some, None, option_and_then, Result, Ok, Err, refl, sym, ap, ◌∙◌, append-nil, ◌⊎◌, inl, inr}
+use Rattle.std.proofs.Common.{◌≡◌, ℕ, ◌+◌, Bool, true, false, not, ◌&&◌, ◌||◌, nat_lt, if◌then◌else◌, is_none, List, [], ◌∷◌, ◌++◌, length, Option, Some, None, option_map, option_and_then, Result, Ok, Err, refl, sym, ap, ◌∙◌, append-nil, ◌⊎◌, inl, inr}
 use Rattle.ch_sql_grammar.specs.declared.tok.Mark.TheVariants as mark
 use Rattle.ch_sql_grammar.specs.declared.tok.Tok.{Tok}
 use Rattle.ch_sql_grammar.specs.declared.tok.Tok.TheVariants as tok
 use Rattle.ch_sql_grammar.specs.declared.error.ParseError.{ParseError}
 use Rattle.ch_sql_grammar.specs.declared.error.ParseError.TheVariants as error
 use Rattle.ch_sql_grammar.specs.Tree.{Select}
-use Rattle.ch_sql_grammar.specs.Tokens.{has_mark, text_in}
+use Rattle.ch_pred.specs.declared.pred.Literal.{Literal}
+use Rattle.ch_sql_grammar.specs.Tokens.{has_mark, literal_in, text_in}
 use Rattle.ch_sql_grammar.specs.Grammar as grammar
 use Rattle.ch_sql_grammar.specs.Grammar.{form_tokens, IsForm, IsQuery}
-use Rattle.ch_sql_places.specs.Machine.{Place, Want, Listed, LikeText, depth_of, is_prefix, step, limit, answer, start, goes, ends, parse_from}
+use Rattle.ch_sql_places.specs.Machine.{Place, Lead, LeadListed, Want, Listed, LikeText, depth_of, is_prefix, step, limit, answer, start, goes, ends, parse_from}
 use Rattle.ch_sql_places.specs.Parsing.{parse_at}
-use Rattle.ch_sql_places.proofs.Walked.{complete, and_left, and_right}
+use Rattle.ch_sql_places.proofs.Run.{Check, opens, lists, matches, noted, led, check, run, form_on}
+use Rattle.ch_sql_places.proofs.Walked.{complete, spelled_walked, and_left, and_right}
 use Rattle.ch_sql_places.proofs.Viable.{read_derived}
 use Rattle.ch_sql_limits.specs.Limits.{IsQueryWithin}
-use Rattle.ch_sql_limits.proofs.Clear.{is_like, allowed, onto, clear}
-use Rattle.ch_sql_limits.proofs.Heads.{filter_clear, form_clear}
-use Rattle.ch_sql_limits.proofs.Depths.{form_fits, form_is_clear}
+use Rattle.ch_sql_limits.proofs.Depths.{keeps, keeping, keeping_settled, form_fits, form_kept}
 
--- a limit refuses what is not allowed
+-- a limit refuses what is not kept
 
-refused_unless : (b c : Bool) (e : ParseError) → is_none (if b && not c then Some e else None) ≡ (if b then c else true)
-refused_unless true true e = refl
-refused_unless true false e = refl
-refused_unless false c e = refl
+abbrev kept : Option Check → Bool
+kept None = true
+kept (Some c) = keeps c
+
+noted_kept : (o : Option Check) (r : Bool) → noted keeping o r ≡ (kept o && r)
+noted_kept None r = refl
+noted_kept (Some c) r = refl
+
+passed_unless : (c : Bool) (e : ParseError) → is_none (if not c then Some e else None) ≡ c
+passed_unless true e = refl
+passed_unless false e = refl
+
+opening_passed : (b : Bool) (depth : ℕ) (e : ParseError) → is_none (if b && not (nat_lt depth 32) then Some e else None) ≡ kept (if b then Some (opens depth) else None)
+opening_passed true depth e = passed_unless (nat_lt depth 32) e
+opening_passed false depth e = refl
+
+lead_kept : (b : Bool) → true ≡ kept (if b then Some (opens 0) else None)
+lead_kept true = refl
+lead_kept false = refl
+
+first_kept : (o : Option Literal) → true ≡ kept (option_map (λ v. lists 0) o)
+first_kept (Some v) = refl
+first_kept None = refl
 
 passed_if : (b : Bool) (e : ParseError) → is_none (if b then None else Some e) ≡ b
 passed_if true e = refl
 passed_if false e = refl
 
-like_passed : (o : Option (List ℕ)) (at : ℕ) → is_none (option_and_then (λ s. if is_prefix s then None else Some (error.BadLike at)) o) ≡ is_like o
+like_passed : (o : Option (List ℕ)) (at : ℕ) → is_none (option_and_then (λ s. if is_prefix s then None else Some (error.BadLike at)) o) ≡ kept (option_map matches o)
 like_passed (Some s) at = passed_if (is_prefix s) (error.BadLike at)
 like_passed None at = refl
 
-limit_passed : (place : Place) (at : ℕ) (t : Tok) → is_none (limit place at t) ≡ allowed place t
-limit_passed (Want around) at t = refused_unless (has_mark mark.Not t || has_mark mark.LeftParen t) (nat_lt (depth_of around) 32) (error.TooDeep at)
+limit_passed : (place : Place) (at : ℕ) (t : Tok) → is_none (limit place at t) ≡ kept (check place t)
+limit_passed (Want around) at t = opening_passed (has_mark mark.Not t || has_mark mark.LeftParen t) (depth_of around) (error.TooDeep at)
 limit_passed (Listed around col literals) at t = passed_if (nat_lt (length literals) 16) (error.InTooLong at)
 limit_passed (LikeText around col) at t = like_passed (text_in t) at
+limit_passed (Lead h) at t = lead_kept (has_mark mark.Not t || has_mark mark.LeftParen t)
+limit_passed (LeadListed h col) at t = first_kept (literal_in t)
 limit_passed place at t = refl
 
--- what is read is allowed, token by token
+-- what is read is kept, token by token
 
-read_on : (o : Option Place) (l : Option ParseError) (b : Bool) (at : ℕ) (ts : List Tok) (tree : Select) → is_none l ≡ b →
-    ((next : Place) → parse_from next (at + 1) ts ≡ Ok tree → clear next ts ≡ true) →
-    goes o l at (λ next. parse_from next (at + 1) ts) ≡ Ok tree → (b && onto o (λ q. clear q ts)) ≡ true
-read_on None l b at ts tree k again h = cc
-read_on (Some next) (Some e) b at ts tree k again h = cc
-read_on (Some next) None b at ts tree k again h = ap (λ a. a && clear next ts) (sym k) ∙ again next h
+read_on : (o : Option Place) (l : Option ParseError) (c : Option Check) (at : ℕ) (ts : List Tok) (tree : Select) → is_none l ≡ kept c →
+    ((next : Place) → parse_from next (at + 1) ts ≡ Ok tree → run keeping next ts ≡ true) →
+    goes o l at (λ next. parse_from next (at + 1) ts) ≡ Ok tree → noted keeping c (led keeping (λ q. run keeping q ts) o) ≡ true
+read_on None l c at ts tree k again h = cc
+read_on (Some next) (Some e) c at ts tree k again h = cc
+read_on (Some next) None c at ts tree k again h = noted_kept c (run keeping next ts) ∙ ap (λ a. a && run keeping next ts) (sym k) ∙ again next h
 
-read_clear : (tokens : List Tok) (place : Place) (at : ℕ) (tree : Select) → parse_from place at tokens ≡ Ok tree → clear place tokens ≡ true
-read_clear [] place at tree h = refl
-read_clear (t ∷ ts) place at tree h = read_on (step place t) (limit place at t) (allowed place t) at ts tree (limit_passed place at t) (λ next k. read_clear ts next (at + 1) tree k) h
+read_kept : (tokens : List Tok) (place : Place) (at : ℕ) (tree : Select) → parse_from place at tokens ≡ Ok tree → run keeping place tokens ≡ true
+read_kept [] place at tree h = refl
+read_kept (t ∷ ts) place at tree h = read_on (step place t) (limit place at t) (check place t) at ts tree (limit_passed place at t) (λ next k. read_kept ts next (at + 1) tree k) h
 
--- what is answered and allowed is read
+-- what is answered and kept is read
 
-clear_on : (o : Option Place) (l : Option ParseError) (b : Bool) (at : ℕ) (ts : List Tok) (tree : Select) → is_none l ≡ b →
-    ((next : Place) → answer next ts ≡ Some tree → clear next ts ≡ true → parse_from next (at + 1) ts ≡ Ok tree) →
-    option_and_then (λ q. answer q ts) o ≡ Some tree → (b && onto o (λ q. clear q ts)) ≡ true → goes o l at (λ next. parse_from next (at + 1) ts) ≡ Ok tree
-clear_on None l b at ts tree k again h c = cc
-clear_on (Some next) (Some e) b at ts tree k again h c = let passed : b ≡ true = and_left b (clear next ts) c in cc
-clear_on (Some next) None b at ts tree k again h c = again next h (and_right b (clear next ts) c)
+kept_on : (o : Option Place) (l : Option ParseError) (c : Option Check) (at : ℕ) (ts : List Tok) (tree : Select) → is_none l ≡ kept c →
+    ((next : Place) → answer next ts ≡ Some tree → run keeping next ts ≡ true → parse_from next (at + 1) ts ≡ Ok tree) →
+    option_and_then (λ q. answer q ts) o ≡ Some tree → noted keeping c (led keeping (λ q. run keeping q ts) o) ≡ true → goes o l at (λ next. parse_from next (at + 1) ts) ≡ Ok tree
+kept_on None l c at ts tree k again h n = cc
+kept_on (Some next) (Some e) c at ts tree k again h n = let passed : kept c ≡ true = and_left (kept c) (run keeping next ts) (sym (noted_kept c (run keeping next ts)) ∙ n) in cc
+kept_on (Some next) None c at ts tree k again h n = again next h (and_right (kept c) (run keeping next ts) (sym (noted_kept c (run keeping next ts)) ∙ n))
 
-clear_read : (tokens : List Tok) (place : Place) (at : ℕ) (tree : Select) → answer place tokens ≡ Some tree → clear place tokens ≡ true → parse_from place at tokens ≡ Ok tree
-clear_read [] place at tree h c = ap (λ o. ends o at) h
-clear_read (t ∷ ts) place at tree h c = clear_on (step place t) (limit place at t) (allowed place t) at ts tree (limit_passed place at t) (λ next k d. clear_read ts next (at + 1) tree k d) h c
+kept_read : (tokens : List Tok) (place : Place) (at : ℕ) (tree : Select) → answer place tokens ≡ Some tree → run keeping place tokens ≡ true → parse_from place at tokens ≡ Ok tree
+kept_read [] place at tree h n = ap (λ o. ends o at) h
+kept_read (t ∷ ts) place at tree h n = kept_on (step place t) (limit place at t) (check place t) at ts tree (limit_passed place at t) (λ next k m. kept_read ts next (at + 1) tree k m) h n
 
 -- the law
 
-spelled_clear : (tokens : List Tok) (form : grammar.Form) → IsForm form → (tokens ≡ form_tokens form) ⊎ (tokens ≡ form_tokens form ++ (tok.Mark mark.Semicolon ∷ [])) → clear start tokens ≡ filter_clear form
-spelled_clear tokens form is (inl e) = ap (clear start) (e ∙ sym (append-nil (form_tokens form))) ∙ form_clear form false is
-spelled_clear tokens form is (inr e) = ap (clear start) e ∙ form_clear form true is
+spelled_kept : (tokens : List Tok) (form : grammar.Form) → IsForm form → (tokens ≡ form_tokens form) ⊎ (tokens ≡ form_tokens form ++ (tok.Mark mark.Semicolon ∷ [])) → run keeping start tokens ≡ form_on keeping form true
+spelled_kept tokens form is spelled = spelled_walked keeping keeping_settled tokens form is spelled
 
 pub without_limits : (tokens : List Tok) (tree : Select) → IsQueryWithin tokens tree → IsQuery tokens tree
 without_limits tokens tree q = record { form = q.form; is_form = q.is_form; spelled = q.spelled; stands_for = q.stands_for }
 
 pub within_read : (tokens : List Tok) (tree : Select) → IsQueryWithin tokens tree → parse_from start 0 tokens ≡ Ok tree
-within_read tokens tree q = clear_read tokens start 0 tree (complete tokens tree (without_limits tokens tree q)) (spelled_clear tokens q.form q.is_form q.spelled ∙ form_is_clear q.form q.fits)
+within_read tokens tree q = kept_read tokens start 0 tree (complete tokens tree (without_limits tokens tree q)) (spelled_kept tokens q.form q.is_form q.spelled ∙ form_kept q.form q.fits)
 
 read_is_derived : (tokens : List Tok) (tree : Select) → parse_from start 0 tokens ≡ Ok tree → IsQuery tokens tree
 unfolding parse_at
@@ -85,7 +105,7 @@ pub read_within : (tokens : List Tok) (tree : Select) → parse_from start 0 tok
 read_within tokens tree h = let q = read_is_derived tokens tree h in record {
   form = q.form;
   is_form = q.is_form;
-  fits = form_fits q.form (sym (spelled_clear tokens q.form q.is_form q.spelled) ∙ read_clear tokens start 0 tree h);
+  fits = form_fits q.form (sym (spelled_kept tokens q.form q.is_form q.spelled) ∙ read_kept tokens start 0 tree h);
   spelled = q.spelled;
   stands_for = q.stands_for;
 }

@@ -1,4 +1,4 @@
--- Each place can be completed, and each derivation is walked.
+-- Each place can be completed.
 use Rattle.std.proofs.Common.{◌≡◌, ℕ, true, false, if◌then◌else◌, List, [], ◌∷◌, ◌++◌, Option, Some, None, option_and_then, refl, sym, ap, ◌∙◌, append_assoc, append-nil}
 use Rattle.ch_sql_grammar.specs.declared.tok.Mark.{Mark}
 use Rattle.ch_sql_grammar.specs.declared.tok.Mark.TheVariants as mark
@@ -29,14 +29,10 @@ use Rattle.ch_sql_grammar.specs.Grammar.{Pred, conj, or, Conj, neg, and, Neg, no
 abbrev pub bare : List ℕ → ColumnRef
 bare n = record { table = None; name = n }
 
--- no dot comes, and no AND
+-- no dot comes
 abbrev pub NoDot : List Tok → Type 0
 NoDot [] = Unit {0}
 NoDot (t ∷ ts) = has_mark mark.Dot t ≡ false
-
-abbrev pub NoAnd : List Tok → Type 0
-NoAnd [] = Unit {0}
-NoAnd (t ∷ ts) = has_mark mark.And t ≡ false
 
 pub step_have : (around : Around) (p : Plain) (t : Tok) → step (have p around) t ≡ step_settled (have p around) t
 step_have (Member conjs negs level) p t = refl
@@ -60,10 +56,6 @@ pub answer_name : (taker : Taker) (n : List ℕ) (ts : List Tok) → NoDot ts �
 answer_name taker n [] h = sym (finish_took taker (bare n))
 answer_name taker n (t ∷ ts) h = ap (λ o. option_and_then (λ q. answer q ts) o)
     (ap (λ b. if b then Some (Dot taker n) else step_settled (took taker (bare n)) t) h ∙ sym (step_took taker (bare n) t))
-
-pub answer_negs : (conjs negs : List Plain) (level : Level) (ts : List Tok) → NoAnd ts → answer (Negs conjs negs level) ts ≡ answer (Conjs (conjs ++ (all_of negs ∷ [])) level) ts
-answer_negs conjs negs level [] h = refl
-answer_negs conjs negs level (t ∷ ts) h = ap (λ b. option_and_then (λ q. answer q ts) (if b then Some (Want (Member conjs negs level)) else step (Conjs (conjs ++ (all_of negs ∷ [])) level) t)) h
 
 -- every place can be completed
 
@@ -206,90 +198,3 @@ completes (LikeText around col) = around_closes around _
 completes (Negs conjs negs level) = level_closes level conjs negs
 completes (Conjs conjs level) = conjs_close level conjs
 completes (Closed p level) = closed_close level p
-
--- each derivation is walked, and gives its tree
-
-first_name : (around : Around) (table : Option (List ℕ)) (n : List ℕ) (m : Mark) (ts : List Tok) → has_mark mark.Dot (tok.Mark m) ≡ false →
-    answer (Want around) (col_tokens (record { table = table; name = n }) ++ (tok.Mark m ∷ ts)) ≡ answer (Atom around (record { table = table; name = n })) (tok.Mark m ∷ ts)
-first_name around None n m ts h = answer_name (First around) n (tok.Mark m ∷ ts) h
-first_name around (Some t) n m ts h = refl
-
-first_col : (around : Around) (col : ColumnRef) (m : Mark) (ts : List Tok) → has_mark mark.Dot (tok.Mark m) ≡ false →
-    answer (Want around) (col_tokens col ++ (tok.Mark m ∷ ts)) ≡ answer (Atom around col) (tok.Mark m ∷ ts)
-first_col around col m ts h = first_name around col.table col.name m ts h
-
-second_name : (around : Around) (left : ColumnRef) (c : Cmp) (table : Option (List ℕ)) (n : List ℕ) (ts : List Tok) → NoDot ts →
-    answer (Compared around left c) (col_tokens (record { table = table; name = n }) ++ ts) ≡ answer (have (Compare left c (side.Column (record { table = table; name = n }))) around) ts
-second_name around left c None n ts h = answer_name (Second around left c) n ts h
-second_name around left c (Some t) n ts h = refl
-
-side_walked : (around : Around) (left : ColumnRef) (c : Cmp) (s : _) (ts : List Tok) → NoDot ts →
-    answer (Compared around left c) (side_tokens s ++ ts) ≡ answer (have (Compare left c s) around) ts
-side_walked around left c (side.Column col) ts h = second_name around left c col.table col.name ts h
-side_walked around left c (side.Value (literal.Number n)) ts h = refl
-side_walked around left c (side.Value (literal.Text t)) ts h = refl
-
-cmp_walked : (around : Around) (col : ColumnRef) (c : Cmp) (ts : List Tok) → answer (Atom around col) (tok.Mark (cmp_mark c) ∷ ts) ≡ answer (Compared around col c) ts
-cmp_walked around col cmp.Eq ts = refl
-cmp_walked around col cmp.Ne ts = refl
-cmp_walked around col cmp.Lt ts = refl
-cmp_walked around col cmp.Le ts = refl
-cmp_walked around col cmp.Gt ts = refl
-cmp_walked around col cmp.Ge ts = refl
-
-cmp_no_dot : (c : Cmp) → has_mark mark.Dot (tok.Mark (cmp_mark c)) ≡ false
-cmp_no_dot cmp.Eq = refl
-cmp_no_dot cmp.Ne = refl
-cmp_no_dot cmp.Lt = refl
-cmp_no_dot cmp.Le = refl
-cmp_no_dot cmp.Gt = refl
-cmp_no_dot cmp.Ge = refl
-
-low_walked : (around : Around) (col : ColumnRef) (v : Literal) (ts : List Tok) → answer (Low around col) (literal_token v ∷ ts) ≡ answer (LowAnd around col v) ts
-low_walked around col (literal.Number n) ts = refl
-low_walked around col (literal.Text t) ts = refl
-
-high_walked : (around : Around) (col : ColumnRef) (low v : Literal) (ts : List Tok) → answer (High around col low) (literal_token v ∷ ts) ≡ answer (have (Between col low v) around) ts
-high_walked around col low (literal.Number n) ts = refl
-high_walked around col low (literal.Text t) ts = refl
-
-listed_one : (around : Around) (col : ColumnRef) (ls : List Literal) (v : Literal) (ts : List Tok) → answer (Listed around col ls) (literal_token v ∷ ts) ≡ answer (Next around col (ls ++ (v ∷ []))) ts
-listed_one around col ls (literal.Number n) ts = refl
-listed_one around col ls (literal.Text t) ts = refl
-
-listed_walked : (around : Around) (col : ColumnRef) (front ls : List Literal) (ts : List Tok) → answer (Listed around col ls) (listed_tokens front ++ ts) ≡ answer (Listed around col (ls ++ front)) ts
-listed_walked around col [] ls ts = ap (λ l. answer (Listed around col l) ts) (sym (append-nil ls))
-listed_walked around col (v ∷ vs) ls ts = listed_one around col ls v (tok.Mark mark.Comma ∷ (listed_tokens vs ++ ts))
-    ∙ listed_walked around col vs (ls ++ (v ∷ [])) ts ∙ ap (λ l. answer (Listed around col l) ts) (append_assoc ls (v ∷ []) vs)
-
-atom_walked : (a : grammar.Atom) (around : Around) (ts : List Tok) → NoDot ts → answer (Want around) (atom_tokens a ++ ts) ≡ answer (have (atom_tree a) around) ts
-atom_walked (compare col c s) around ts h = ap (λ l. answer (Want around) l) (append_assoc (col_tokens col) (tok.Mark (cmp_mark c) ∷ side_tokens s) ts)
-    ∙ first_col around col (cmp_mark c) (side_tokens s ++ ts) (cmp_no_dot c) ∙ cmp_walked around col c (side_tokens s ++ ts) ∙ side_walked around col c s ts h
-atom_walked (between col low high) around ts h = ap (λ l. answer (Want around) l) (append_assoc (col_tokens col) (tok.Mark mark.Between ∷ literal_token low ∷ tok.Mark mark.And ∷ literal_token high ∷ []) ts)
-    ∙ first_col around col mark.Between (literal_token low ∷ tok.Mark mark.And ∷ literal_token high ∷ ts) refl ∙ low_walked around col low (tok.Mark mark.And ∷ literal_token high ∷ ts) ∙ high_walked around col low high ts
-atom_walked (within col front last) around ts h = ap (λ l. answer (Want around) l) (append_assoc (col_tokens col) (tok.Mark mark.In ∷ tok.Mark mark.LeftParen ∷ (listed_tokens front ++ (literal_token last ∷ tok.Mark mark.RightParen ∷ []))) ts)
-    ∙ first_col around col mark.In (tok.Mark mark.LeftParen ∷ ((listed_tokens front ++ (literal_token last ∷ tok.Mark mark.RightParen ∷ [])) ++ ts)) refl
-    ∙ ap (λ l. answer (Listed around col []) l) (append_assoc (listed_tokens front) (literal_token last ∷ tok.Mark mark.RightParen ∷ []) ts)
-    ∙ listed_walked around col front [] (literal_token last ∷ tok.Mark mark.RightParen ∷ ts) ∙ listed_one around col front last (tok.Mark mark.RightParen ∷ ts)
-atom_walked (like col text) around ts h = ap (λ l. answer (Want around) l) (append_assoc (col_tokens col) (tok.Mark mark.Like ∷ tok.Text text ∷ []) ts)
-    ∙ first_col around col mark.Like (tok.Text text ∷ ts) refl
-
-or_taken : (conjs : List Plain) (level : Level) (ts : List Tok) → takes_or level ≡ true → answer (Conjs conjs level) (tok.Mark mark.Or ∷ ts) ≡ answer (Want (Member conjs [] level)) ts
-or_taken conjs level ts o = ap (λ b. option_and_then (λ q. answer q ts) (if b then Some (Want (Member conjs [] level)) else after_pred (any_of conjs) level (tok.Mark mark.Or))) o
-
-mutual
-  pub neg_walked : (n : Neg) (around : Around) (ts : List Tok) → NoDot ts → answer (Want around) (neg_tokens n ++ ts) ≡ answer (have (neg_tree n) around) ts
-  neg_walked (not n) around ts h = neg_walked n (Negated around) ts h
-  neg_walked (parens p) around ts h = ap (λ l. answer (Want (Member [] [] (Group around))) l) (append_assoc (pred_tokens p) (tok.Mark mark.RightParen ∷ []) ts)
-      ∙ pred_walked p (Group around) (tok.Mark mark.RightParen ∷ ts) refl refl refl
-  neg_walked (atom a) around ts h = atom_walked a around ts h
-
-  pub conj_walked : (c : Conj) (conjs : List Plain) (level : Level) (ts : List Tok) → NoDot ts → answer (Want (Member conjs [] level)) (conj_tokens c ++ ts) ≡ answer (Negs conjs (neg_trees c) level) ts
-  conj_walked (neg n) conjs level ts h = neg_walked n (Member conjs [] level) ts h
-  conj_walked (and c n) conjs level ts h = ap (λ l. answer (Want (Member conjs [] level)) l) (append_assoc (conj_tokens c) (tok.Mark mark.And ∷ neg_tokens n) ts)
-      ∙ conj_walked c conjs level (tok.Mark mark.And ∷ (neg_tokens n ++ ts)) refl ∙ neg_walked n (Member conjs (neg_trees c) level) ts h
-
-  pub pred_walked : (p : Pred) (level : Level) (ts : List Tok) → takes_or level ≡ true → NoDot ts → NoAnd ts → answer (Want (Member [] [] level)) (pred_tokens p ++ ts) ≡ answer (Conjs (conj_trees p) level) ts
-  pred_walked (conj c) level ts o h k = conj_walked c [] level ts h ∙ answer_negs [] (neg_trees c) level ts k
-  pred_walked (or p c) level ts o h k = ap (λ l. answer (Want (Member [] [] level)) l) (append_assoc (pred_tokens p) (tok.Mark mark.Or ∷ conj_tokens c) ts)
-      ∙ pred_walked p level (tok.Mark mark.Or ∷ (conj_tokens c ++ ts)) o refl refl ∙ or_taken (conj_trees p) level (conj_tokens c ++ ts) o ∙ conj_walked c (conj_trees p) level ts h ∙ answer_negs (conj_trees p) (neg_trees c) level ts k

@@ -28,32 +28,19 @@ use Rattle.ch_sql_grammar.specs.declared.tail.TailTaker.{TailTaker}
 use Rattle.ch_sql_grammar.specs.declared.tail.TailTaker.TheVariants as tailtaker
 use Rattle.ch_sql_places.specs.Machine.{Around, Member, Negated, Level, Whole, Group, First, Second, Leading, Place, Heading, Lead, LeadCol, LeadIn, LeadListed, Want, Name, Dot, Atom, Compared, Low, LowAnd, High, In, Listed, Next, LikeText, Negs, Conjs, Closed, Tailing, given, takes_or, takes_tail, may_be_outer, is_semi}
 use Rattle.ch_sql_places.proofs.Walked.{FitAll}
+pub use Rattle.ch_sql_places.specs.Refusal.{ors_tokens, ands_tokens, OrsFit}
 use Rattle.ch_sql_grammar.specs.Grammar as grammar
 use Rattle.ch_sql_grammar.specs.Grammar.{Pred, conj, or, Conj, neg, and, Neg, not, parens, atom, compare, between, within, like, col_tokens, qualifier, literal_token, listed_tokens, cmp_mark, side_tokens, atom_tokens, pred_tokens, conj_tokens, neg_tokens, atom_tree, conj_trees, neg_trees, neg_tree, pred_tree, conj_tree, each, extreme_tokens, item_tokens, items_tokens, where_tokens, and_tokens, direction_tokens, agg_tokens, having_tokens, dim_mark, dim_tokens, ending_tokens, endings_tokens, one_tokens, distinct_tokens, join_tokens, semi_tokens, form_tokens, is_descending, ending_tree, endings_tree, form_tree, is_plain_item, ArePlain, IsForm, IsQuery}
 
 -- the negs before an AND, and the conjs before an OR
 
-abbrev pub ands_tokens : Option Conj → List Tok
-ands_tokens None = []
-ands_tokens (Some c) = conj_tokens c ++ (tok.Mark mark.And ∷ [])
-
 abbrev pub ands_trees : Option Conj → List Plain
 ands_trees None = []
 ands_trees (Some c) = neg_trees c
 
-abbrev pub ors_tokens : Option Pred → List Tok
-ors_tokens None = []
-ors_tokens (Some p) = pred_tokens p ++ (tok.Mark mark.Or ∷ [])
-
 abbrev pub ors_trees : Option Pred → List Plain
 ors_trees None = []
 ors_trees (Some p) = conj_trees p
-
--- only where an OR may come conjs stand before one
-
-abbrev pub OrsFit : Option Pred → Bool → Type 0
-OrsFit None b = Unit {0}
-OrsFit (Some p) b = b ≡ true
 
 abbrev pub PredFits : Pred → Bool → Type 0
 PredFits (conj c) b = Unit {0}

@@ -1,7 +1,13 @@
 pub mod Complete
+pub mod Filters
 pub mod HeadSound
+pub mod Judged
 pub mod Leads
+pub mod Opened
+pub mod Opening
+pub mod Passing
 pub mod Refused
+pub mod Run
 pub mod Sound
 pub mod TailSound
 pub mod Viable

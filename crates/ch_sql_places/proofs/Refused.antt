@@ -7,7 +7,7 @@ use Rattle.ch_sql_grammar.specs.declared.query.Query.{Query}
 use Rattle.ch_sql_grammar.specs.Tree.{Select, select_of}
 use Rattle.ch_sql_places.specs.Machine.{Place, step, limit, finish, walk, start, goes, ends, parse_from}
 use Rattle.ch_sql_places.specs.Parsing.{parse_at, Moves}
-use Rattle.ch_sql_places.specs.Refusal.{passes, pass, IsSyntax, IsLimit, IsRefusal}
+use Rattle.ch_sql_places.proofs.Passing.{passes, pass, StopsAt, LimitedBy, IsGiven}
 use Rattle.ch_sql_places.proofs.Viable.{NotSyntax, limit_not_syntax, begins, ends_there, walk_more}
 
 abbrev Why : Place → ℕ → List Tok → ParseError → Type 0
@@ -73,13 +73,13 @@ pass_step None l f g last again h = cc
 pass_step (Some next) (Some e) f g last again h = cc
 pass_step (Some next) None f g last again h = again next h
 
-passed : (front : List Tok) (place last : Place) (at : ℕ) → pass place at front ≡ Some last → walk place front ≡ Some last
+pub passed : (front : List Tok) (place last : Place) (at : ℕ) → pass place at front ≡ Some last → walk place front ≡ Some last
 passed [] place last at h = h
 passed (t ∷ ts) place last at h = pass_step (step place t) (limit place at t) (λ next. pass next (at + 1) ts) (λ next. walk next ts) last (λ next k. passed ts next last (at + 1) k) h
 
 -- either a syntax error or a limit
 by_why : (tokens front rest : List Tok) (last : Place) (e : ParseError) → tokens ≡ front ++ rest → pass start 0 front ≡ Some last → Why last (length front) rest e →
-    ((e ≡ error.Syntax (length front)) × IsSyntax tokens (length front)) ⊎ IsLimit tokens e
+    ((e ≡ error.Syntax (length front)) × StopsAt tokens (length front)) ⊎ LimitedBy tokens e
 by_why tokens front [] last e whole taken (s, stuck) = let w = passed front start last 0 taken in
     inl (s, record { front = front; rest = []; place = last; whole = whole; here = refl; taken = taken; begins = begins front last w; ends = ends_there front [] last w stuck })
 by_why tokens front (t ∷ ts) last e whole taken (inl (s, stuck)) = let w = passed front start last 0 taken in
@@ -87,13 +87,13 @@ by_why tokens front (t ∷ ts) last e whole taken (inl (s, stuck)) = let w = pas
 by_why tokens front (t ∷ ts) last e whole taken (inr (next, on, l)) = let w = passed front start last 0 taken in
     inr (record { front = front; token = t; rest = ts; place = last; whole = whole; taken = taken; begins = begins (front ++ (t ∷ [])) next (walk_more front t start last next w on); limited = l })
 
-not_syntax : (tokens : List Tok) (n : ℕ) → IsLimit tokens (error.Syntax n) → ⊥
+not_syntax : (tokens : List Tok) (n : ℕ) → LimitedBy tokens (error.Syntax n) → ⊥
 not_syntax tokens n r = let h = limit_not_syntax r.place (length r.front) r.token in
     (let P : Option ParseError → Type 0 = λ o. IfSome o NotSyntax in subst P r.limited h) n refl
 
-either : (tokens : List Tok) (e : ParseError) → ((n : ℕ) × (e ≡ error.Syntax n) × IsSyntax tokens n) ⊎ IsLimit tokens e → IsRefusal tokens e
+either : (tokens : List Tok) (e : ParseError) → ((n : ℕ) × (e ≡ error.Syntax n) × StopsAt tokens n) ⊎ LimitedBy tokens e → IsGiven tokens e
 either tokens error.Memory w = tt
-either tokens (error.Syntax at) (inl (n, s, r)) = let P : ℕ → Type 0 = λ k. IsSyntax tokens k in subst P (let m : n ≡ at = cc in m) r
+either tokens (error.Syntax at) (inl (n, s, r)) = let P : ℕ → Type 0 = λ k. StopsAt tokens k in subst P (let m : n ≡ at = cc in m) r
 either tokens (error.Syntax at) (inr r) = absurd (not_syntax tokens at r)
 either tokens (error.TooDeep at) (inl (n, s, r)) = cc
 either tokens (error.TooDeep at) (inr r) = r
@@ -102,18 +102,18 @@ either tokens (error.InTooLong at) (inr r) = r
 either tokens (error.BadLike at) (inl (n, s, r)) = cc
 either tokens (error.BadLike at) (inr r) = r
 
-pub why_refused : (tokens : List Tok) (e : ParseError) → parse_from start 0 tokens ≡ Err e → IsRefusal tokens e
+pub why_refused : (tokens : List Tok) (e : ParseError) → parse_from start 0 tokens ≡ Err e → IsGiven tokens e
 why_refused tokens e h =
     let r = stops tokens start 0 e h in
     let why : Why r.last (length r.front) r.rest e = (let P : ℕ → Type 0 = λ n. Why r.last n r.rest e in subst P (let m : 0 + length r.front ≡ length r.front = omega arith in m) r.why) in
     let w = by_why tokens r.front r.rest r.last e r.whole r.taken why in
     either tokens e (elim w [ inl s ↦ inl (length r.front, s.0, s.1) | inr l ↦ inr l ])
 
-pub refusals : (tokens : List Tok) (r : Result Query ParseError) → Moves (parse_at tokens start 0) (λ q. Ok (select_of q)) r → IfErr r (λ e. IsRefusal tokens e)
+pub given_refusals : (tokens : List Tok) (r : Result Query ParseError) → Moves (parse_at tokens start 0) (λ q. Ok (select_of q)) r → IfErr r (λ e. IsGiven tokens e)
 unfolding parse_at
-refusals tokens (Ok p) m = tt
-refusals tokens (Err error.Memory) m = tt
-refusals tokens (Err (error.Syntax at)) m = why_refused tokens _ m
-refusals tokens (Err (error.TooDeep at)) m = why_refused tokens _ m
-refusals tokens (Err (error.InTooLong at)) m = why_refused tokens _ m
-refusals tokens (Err (error.BadLike at)) m = why_refused tokens _ m
+given_refusals tokens (Ok p) m = tt
+given_refusals tokens (Err error.Memory) m = tt
+given_refusals tokens (Err (error.Syntax at)) m = why_refused tokens _ m
+given_refusals tokens (Err (error.TooDeep at)) m = why_refused tokens _ m
+given_refusals tokens (Err (error.InTooLong at)) m = why_refused tokens _ m
+given_refusals tokens (Err (error.BadLike at)) m = why_refused tokens _ m

@@ -5,7 +5,7 @@ use Rattle.ch_sql_grammar.specs.declared.error.ParseError.{ParseError}
 use Rattle.ch_sql_grammar.specs.declared.error.ParseError.TheVariants as error
 use Rattle.ch_sql_grammar.specs.Tree.{Select, select_of}
 use Rattle.ch_sql_grammar.specs.declared.query.Query.{Query}
-use Rattle.ch_sql_places.specs.Parsing.{parse_at, Moves, Reads}
+use Rattle.ch_sql_places.specs.Parsing.{parse_at}
 use Rattle.ch_sql_grammar.specs.declared.tok.Mark.TheVariants as mark
 use Rattle.ch_sql_grammar.specs.Tokens.{has_mark, text_in}
 use Rattle.ch_sql_places.specs.Machine.{Place, Want, Listed, LikeText, depth_of, is_prefix, step, limit, finish, walk, answer, start, goes, ends, parse_from}
@@ -112,30 +112,8 @@ pub read_derived : (tokens : List Tok) (tree : Select) → parse_at tokens start
 unfolding parse_at
 read_derived tokens tree h = sound tokens tree (read_walked tokens start 0 tree h)
 
-pub derived_not_refused : (tokens : List Tok) (tree : Select) (at : ℕ) → IsQuery tokens tree → parse_at tokens start 0 ≡ Err (error.Syntax at) → ⊥
-unfolding parse_at
-derived_not_refused tokens tree at is h =
-    let (front, rest, next, te, ne, w, stuck) = refused tokens start 0 at h in
-    let a : answer start (front ++ rest) ≡ answer next rest = answer_walked front rest start next w in
-    let b : answer start tokens ≡ Some tree = complete tokens tree is in
-    let c : answer start tokens ≡ answer start (front ++ rest) = ap (answer start) te in
-    let d : answer next rest ≡ None = stuck_none next rest stuck in
-    cc
-
 pub one_tree : (tokens : List Tok) (a b : Select) → IsQuery tokens a → IsQuery tokens b → a ≡ b
 one_tree tokens a b p q = let k : answer start tokens ≡ Some a = complete tokens a p in let l : answer start tokens ≡ Some b = complete tokens b q in cc
-
-pub reads : (tokens : List Tok) (tree : Select) (r : Result Query ParseError) → IsQuery tokens tree → Moves (parse_at tokens start 0) (λ q. Ok (select_of q)) r → Reads tree r
-reads tokens tree (Ok p) is m = one_tree tokens (select_of p) tree (read_derived tokens (select_of p) m) is
-reads tokens tree (Err (error.Syntax at)) is m = derived_not_refused tokens tree at is m
-reads tokens tree (Err (error.TooDeep at)) is m = tt
-reads tokens tree (Err (error.InTooLong at)) is m = tt
-reads tokens tree (Err (error.BadLike at)) is m = tt
-reads tokens tree (Err error.Memory) is m = tt
-
-pub found : (tokens : List Tok) (r : Result Query ParseError) → Moves (parse_at tokens start 0) (λ q. Ok (select_of q)) r → IfOk r (λ q. IsQuery tokens (select_of q))
-found tokens (Ok p) m = read_derived tokens (select_of p) m
-found tokens (Err e) m = tt
 
 walk_on : (o : Option Place) (ts : List Tok) (t : Tok) (last next : Place) → ((p : Place) → walk p ts ≡ Some last → walk p (ts ++ (t ∷ [])) ≡ Some next) →
     option_and_then (λ p. walk p ts) o ≡ Some last → option_and_then (λ p. walk p (ts ++ (t ∷ []))) o ≡ Some next

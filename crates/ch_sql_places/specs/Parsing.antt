@@ -36,9 +36,3 @@ LiteralAt tokens at (Err e) = ⊥
 -- what the tokens behind the last literal of a list give
 abbrev pub behind_list : List Tok → Around → ColumnRef → List Literal → ℕ → Result Select ParseError
 behind_list tokens around col literals at = if marked mark.RightParen tokens at then parse_at tokens (have (Within col literals) around) (at + 1) else Err (error.Syntax at)
-
--- the tree was read, or a limit refused it
-abbrev pub Reads : Select → Result Query ParseError → Type 0
-Reads tree (Ok q) = select_of q ≡ tree
-Reads tree (Err (error.Syntax at)) = ⊥
-Reads tree (Err e) = Unit {0}
