@@ -2,8 +2,10 @@
 #![tactic(auto)]
 
 mod answer;
+mod run;
 
 pub use answer::answer_text;
+pub use run::{counts_text, report_text};
 
 #[cfg(test)]
 mod tests;

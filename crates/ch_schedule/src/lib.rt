@@ -1,0 +1,14 @@
+//! Schedules: the text of what links and switch do in a run, read.
+#![tactic(auto)]
+
+mod field;
+mod laws;
+mod line;
+mod read;
+mod step;
+#[cfg(test)]
+mod tests;
+
+pub use laws::every_event_is_a_step;
+pub use read::{ScheduleError, ScheduleWhy, read_schedule};
+pub use step::{How, Link, Schedule, Step};
