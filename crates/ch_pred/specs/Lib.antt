@@ -1,4 +1,10 @@
+pub mod Copy
+pub mod Gate
 pub mod Holds
 pub mod Meaning
+pub mod Named
 pub mod Names
+pub mod Part
 pub mod Plain
+pub mod Sound
+pub mod Values

@@ -1,4 +1,9 @@
-ghost use Rattle.std.specs.Prelude.{◌≡◌};
+ghost use Rattle.std.specs.Prelude.{◌≡◌, ℕ, true, false};
+ghost use Rattle.ch_cells.specs.declared.Cell.{Cell};
+ghost use Rattle.ch_pred.specs.Values.{View};
+ghost use Rattle.ch_pred.specs.Plain.{Plain};
+ghost use Rattle.ch_pred.specs.Gate.{part_holds};
+ghost use Rattle.ch_pred.specs.Part.{is_exact, part_of, weak_of};
 ghost use Rattle.std.specs.List.{starts_with};
 ghost use Rattle.ch_cells.specs.Cell.{cell_cmp};
 ghost use Rattle.ch_cells.specs.CellRef.{cell_of};
@@ -8,7 +13,7 @@ ghost use Rattle.ch_pred.specs.Names.{Names, NamesArg};
 
 use crate::cells::Cells;
 use crate::pred::{Arg, BoundPred, Cmp, Literal};
-use ch_cells::CellRef;
+use ch_cells::{CellRef, cmp_lent};
 use std::cmp::Ordering;
 
 /// Whether the row, which has each column that the predicate names, passes it.
@@ -21,7 +26,7 @@ pub fn holds<R: Cells>(p: &BoundPred, row: &R) -> bool
         BoundPred::Compare(col, cmp, arg) => {
             let cell = row.cell(col.side, col.at);
             let other = arg_of(arg, row);
-            does_pass(order(cell, other), *cmp)
+            does_pass(cmp_lent(cell, other), *cmp)
         }
         BoundPred::Between(col, low, high) => lies_between(row.cell(col.side, col.at), low, high),
         BoundPred::Within(col, literals) => is_among(row.cell(col.side, col.at), literals),
@@ -46,6 +51,16 @@ pub fn holds<R: Cells>(p: &BoundPred, row: &R) -> bool
     }
 }
 
+/// The part of a side holds where the gate says so, and a predicate implies its parts and its weak filters. Where it names
+/// columns of one side alone it is its part, and where no LIKE stands in it its weak filter too.
+pub fn parts_follow()
+    ensures gate { (row : View Cell) (p : Plain) (side : ℕ) → holds_of row (part_of p side) ≡ part_holds side false row p }
+    ensures part { (row : View Cell) (p : Plain) (side : ℕ) → holds_of row p ≡ true → holds_of row (part_of p side) ≡ true }
+    ensures weak { (row : View Cell) (p : Plain) (side : ℕ) → holds_of row p ≡ true → holds_of row (weak_of p side) ≡ true }
+    ensures same_part { (row : View Cell) (p : Plain) (side : ℕ) → Names (λ s at. s ≡ side) p → holds_of row (part_of p side) ≡ holds_of row p }
+    ensures same_weak { (row : View Cell) (p : Plain) (side : ℕ) → Names (λ s at. s ≡ side) p → is_exact p ≡ true → holds_of row (weak_of p side) ≡ holds_of row p }
+{}
+
 /// The cell that a column is compared with.
 fn arg_of<'a, R: Cells>(arg: &'a Arg, row: &'a R) -> CellRef<'a>
     requires { NamesArg (R.has row.now) arg.now }
@@ -66,17 +81,6 @@ fn lend_literal(literal: &Literal) -> CellRef<'_>
     }
 }
 
-fn order(a: CellRef<'_>, b: CellRef<'_>) -> Ordering
-    ensures { result ≡ cell_cmp (cell_of a.entry) (cell_of b.entry) }
-{
-    match (a, b) {
-        (CellRef::Number(x), CellRef::Number(y)) => x.cmp(&y),
-        (CellRef::Number(_), CellRef::Text(_)) => Ordering::Less,
-        (CellRef::Text(_), CellRef::Number(_)) => Ordering::Greater,
-        (CellRef::Text(x), CellRef::Text(y)) => x.cmp(y),
-    }
-}
-
 fn does_pass(order: Ordering, cmp: Cmp) -> bool
     ensures { result ≡ passes cmp order }
 {
@@ -93,14 +97,14 @@ fn does_pass(order: Ordering, cmp: Cmp) -> bool
 fn lies_between(cell: CellRef<'_>, low: &Literal, high: &Literal) -> bool
     ensures { result ≡ is_between (cell_of cell.entry) low.now high.now }
 {
-    order(cell, lend_literal(low)).is_ge() && order(cell, lend_literal(high)).is_le()
+    cmp_lent(cell, lend_literal(low)).is_ge() && cmp_lent(cell, lend_literal(high)).is_le()
 }
 
 fn is_among(cell: CellRef<'_>, literals: &[Literal]) -> bool
     ensures { result ≡ is_within (cell_of cell.entry) literals.now }
 {
     for literal in literals {
-        if order(cell, lend_literal(literal)).is_eq() {
+        if cmp_lent(cell, lend_literal(literal)).is_eq() {
             return true;
         }
     }

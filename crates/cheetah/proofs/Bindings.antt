@@ -18,6 +18,7 @@ pub fits_table : (q : PlainQuery) (table : TableValue) (printed tested : ℕ) �
 fits_table q table printed tested p t = record {
   filter = rw (plain_of-Compare (column_at tested) q.cmp (arg.Value (literal.Number q.number))) ((refl, t), tt);
   printed = let there : NamesPrinted (HasColumn table) (print.Column (column_at printed)) = (refl, p) in search (rules, there);
+  shape = refl;
 }
 
 numeric_step : (kinds : List Kind) (i : ℕ) (k : Kind) → slice_get kinds i ≡ Some k → is_numeric (drop i kinds) ≡ (is_no_text k && is_numeric (drop (i + 1) kinds))

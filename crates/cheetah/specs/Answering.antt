@@ -1,7 +1,5 @@
 -- What a query over a table comes to.
 use Rattle.std.specs.Prelude.{◌≡◌, ◌≢◌, ◌⊎◌, ℕ, List, [], ◌∷◌, Option, Some, None, option_and_then, option_map, Result, Ok, Err, codes, flat_map}
-use Rattle.ch_cells.specs.Row.{ascending}
-use Rattle.ch_cells.specs.declared.Answer.{Answer}
 use Rattle.ch_cells.specs.declared.Cell.{Cell}
 use Rattle.ch_command.specs.Outcome.{Outcome, answered, refused}
 use Rattle.ch_sql_grammar.specs.declared.error.ParseError.{ParseError}
@@ -9,8 +7,7 @@ use Rattle.ch_sql_grammar.specs.declared.error.ParseError.TheVariants as parse
 use Rattle.ch_sql_grammar.specs.Tree.{Select}
 use Rattle.ch_sql_limits.specs.Limits.{IsQueryWithin}
 use Rattle.ch_sql_places.specs.Refusal.{IsRefusal}
-use Rattle.ch_pred.specs.Meaning.{meaning}
-use Rattle.ch_pred.specs.declared.Bound.{Bound}
+use Rattle.ch_pred.specs.Meaning.{answer_of}
 use Rattle.ch_print.specs.AnswerText.{text_of}
 use Rattle.ch_sql.specs.Parsed.{seen}
 use Rattle.ch_tables.specs.TableValue.{TableValue}
@@ -32,10 +29,6 @@ room = record { rows = 4000000; cells = 32000000 }
 abbrev pub rows_of : TableValue → List (List Cell)
 rows_of table = flat_map (λ rows. rows) table.parts
 
--- the answer of a bound query over one table, in the order in which it is printed
-abbrev pub answer_of : TableValue → Bound → Answer
-answer_of table b = record { header = b.header; rows = ascending (meaning b (rows_of table ∷ [])) }
-
 abbrev pub not_built_line : List ℕ
 not_built_line = codes "input: not built yet\n"
 
@@ -45,7 +38,7 @@ outcome_of None = refused 2 not_built_line
 outcome_of (Some text) = answered text
 
 abbrev pub answer_to : TableValue → Select → Outcome
-answer_to table q = outcome_of (option_map text_of (option_map (answer_of table) (option_and_then (λ p. bound_of p table) (plain_query q))))
+answer_to table q = outcome_of (option_map text_of (option_map (λ b. answer_of b (rows_of table ∷ [])) (option_and_then (λ p. bound_of p table) (plain_query q))))
 
 -- the tokens are a query, which has this answer
 pub record Answers (table : TableValue) (tokens : List Token) (outcome : Outcome) : Type 0 where

@@ -27,13 +27,12 @@ impl<'a> TableRow<'a> {
 }
 
 impl Cells for TableRow<'_> {
-    ghost use Rattle.std.specs.Prelude.{◌∷◌};
-    ghost use Rattle.ch_pred.specs.Meaning.{cell_at};
+    ghost use Rattle.ch_pred.specs.Values.{cells_seen};
     ghost use Rattle.cheetah.specs.Selection.{HasColumn};
 
     ghost has = { λ r. HasColumn r.table.now };
 
-    ghost cell_at = { λ r. cell_at (slice_index_or (slice_index_or r.table.now.parts r.part []) r.row [] ∷ []) };
+    ghost cell_at = { λ r. cells_seen (slice_index_or (slice_index_or r.table.now.parts r.part []) r.row []) };
 
     fn cell(&self, _side: u8, at: u32) -> CellRef<'_> {
         self.table.cell(self.part, self.row, at)
