@@ -1,0 +1,16 @@
+pub mod Tied
+pub mod Order
+pub mod OneTable
+pub mod FilterCover
+pub mod DistinctCover
+pub mod Ranks
+pub mod Packets
+pub mod Gates
+pub mod TopCover
+pub mod GroupCover
+pub mod HavingCover
+pub mod JoinCover
+pub mod SkylineCover
+pub mod SemiCover
+pub mod WorkedTexts
+pub mod SoundQueries

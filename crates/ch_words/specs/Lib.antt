@@ -1,0 +1,9 @@
+pub mod Words
+pub mod Readings
+pub mod Rows
+pub mod Policies
+pub mod Ranks
+pub mod Packets
+pub mod Gates
+pub mod Prunable
+pub mod Worked
