@@ -1,8 +1,8 @@
 -- The closing rounds, which confirm each pass.
-use Rattle.std.specs.Prelude.{◌≡◌, ◌<◌, ◌⊎◌, ℕ, zero, suc, ◌+◌, ◌*◌, true, if◌then◌else◌, length, map}
+use Rattle.std.specs.Prelude.{◌≡◌, ◌<◌, ◌⊎◌, ℕ, zero, suc, ◌+◌, ◌*◌, true, if◌then◌else◌, List, length, map}
 use Rattle.ch_protocol.specs.Sets.{numbers_from}
 use Rattle.ch_protocol.specs.Sender.{open_numbers}
-use Rattle.ch_protocol.specs.Machine.{Config, State, size, workers, total, passes, can_send, step, run, stopped}
+use Rattle.ch_protocol.specs.Machine.{Config, State, Event, size, workers, total, passes, can_send, step, run, stopped}
 use Rattle.ch_protocol.specs.Machine.How.{Take}
 use Rattle.ch_protocol.specs.Machine.Event.{Send, Resend, Up, Down, Back}
 
@@ -11,8 +11,11 @@ repeat f zero s = s
 repeat f (suc n) s = repeat f n (f s)
 
 -- one resend for each number that is sent and unacknowledged when the turn begins, ascending
+abbrev pub resend_events : State → ℕ → List Event
+resend_events s w = map (λ place. Resend w place) (numbers_from 0 (length (open_numbers (s.next w) (s.acked w))))
+
 abbrev pub resends : Config → State → ℕ → State
-resends c s w = run c (map (λ place. Resend w place) (numbers_from 0 (length (open_numbers (s.next w) (s.acked w))))) s
+resends c s w = run c (resend_events s w) s
 
 -- sends while one puts something on the link, at most so many
 unfoldable pub sends : Config → ℕ → ℕ → State → State

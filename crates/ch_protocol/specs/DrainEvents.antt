@@ -1,16 +1,10 @@
 -- Drain as a list of events.
-use Rattle.std.specs.Prelude.{◌≡◌, ℕ, zero, suc, ◌*◌, true, false, if◌then◌else◌, List, [], ◌∷◌, ◌++◌, length, map, replicate}
-use Rattle.ch_protocol.specs.Sets.{numbers_from}
-use Rattle.ch_protocol.specs.Sender.{open_numbers}
+use Rattle.std.specs.Prelude.{◌≡◌, ℕ, zero, suc, ◌*◌, true, false, if◌then◌else◌, List, [], ◌∷◌, ◌++◌, length, replicate}
 use Rattle.ch_protocol.specs.Machine.{Config, State, Event, size, workers, passes, can_send, step, stopped}
 use Rattle.ch_protocol.specs.Machine.How.{Take}
-use Rattle.ch_protocol.specs.Machine.Event.{Send, Resend, Up, Down, Back}
+use Rattle.ch_protocol.specs.Machine.Event.{Send, Up, Down, Back}
 use Rattle.ch_protocol.specs.Fates.{event_fate, is_made}
-use Rattle.ch_protocol.specs.Drain.{resends, take_turn, turns, round, empty_up, empty_down, most_rounds}
-
--- one resend for each number that is sent and unacknowledged when the turn begins
-abbrev pub resend_events : State → ℕ → List Event
-resend_events s w = map (λ place. Resend w place) (numbers_from 0 (length (open_numbers (s.next w) (s.acked w))))
+use Rattle.ch_protocol.specs.Drain.{resend_events, resends, take_turn, turns, round, empty_up, empty_down, most_rounds}
 
 -- sends while one puts something on the link
 unfoldable pub send_events : Config → ℕ → ℕ → State → List Event

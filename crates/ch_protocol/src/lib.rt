@@ -3,14 +3,14 @@
 //! The functions here have empty bodies. Their contracts tie the definitions to each other.
 #![tactic(auto)]
 
-ghost use Rattle.std.specs.Prelude.{◌≡◌, ◌↔◌, ℕ, suc, Bool, true, false, if◌then◌else◌, List, [], ◌∷◌, ◌++◌, length};
+ghost use Rattle.std.specs.Prelude.{◌≡◌, ◌↔◌, ◌⊎◌, ℕ, suc, Bool, true, false, if◌then◌else◌, List, [], ◌∷◌, ◌++◌, length};
 ghost use Rattle.ch_protocol.specs.Packets.{Name};
 ghost use Rattle.ch_protocol.specs.Forwarder.{keeps_after};
 ghost use Rattle.ch_protocol.specs.Machine.{Config, State, Event, How, effect, keeps_all, row_at};
 ghost use Rattle.ch_protocol.specs.Machine.Event.{Send, Resend, Up, Down, Back};
 ghost use Rattle.ch_protocol.specs.Fates.{event_fate};
 ghost use Rattle.ch_protocol.specs.Received.{is_row_of, names_arrived, rows_arrived};
-ghost use Rattle.ch_protocol.specs.declared.fate.NoteFate.TheVariants.{Nothing, Sent, New, Pruned};
+ghost use Rattle.ch_protocol.specs.declared.fate.NoteFate.TheVariants.{Nothing, Sent, Pruned, Forwarded, Passed, New, Taken};
 
 mod fate;
 
@@ -34,8 +34,14 @@ pub fn fates_tell()
     // a packet on the link down is New exactly where the master has one name more
     ensures new { (c : Config) (s : State) (place : ℕ) (how : How) → (event_fate c s (Down place how) ≡ New) ↔ (length (effect c s (Down place how)).received ≡ suc (length s.received)) }
 
-    // a packet on the link up is Pruned exactly where the switch puts an acknowledgement on the link back
+    // a packet on the link up is Forwarded or Passed exactly where the switch puts it on the link down
+    ensures sent_on { (c : Config) (s : State) (place : ℕ) (how : How) → ((event_fate c s (Up place how) ≡ Forwarded) ⊎ (event_fate c s (Up place how) ≡ Passed)) ↔ (length (effect c s (Up place how)).down ≡ suc (length s.down)) }
+
+    // and it is Pruned exactly where the switch puts an acknowledgement on the link back
     ensures pruned { (c : Config) (s : State) (place : ℕ) (how : How) → (event_fate c s (Up place how) ≡ Pruned) ↔ (length (effect c s (Up place how)).back ≡ suc (length s.back)) }
+
+    // where an acknowledgement isn't Taken the workers learn nothing
+    ensures untaken { (c : Config) (s : State) (place : ℕ) (how : How) → (event_fate c s (Back place how) ≡ Taken → ⊥) → (effect c s (Back place how)).acked ≡ s.acked }
 {}
 
 /// A received name stands behind those that came before it.

@@ -4,9 +4,9 @@ use Rattle.std.proofs.lemmas.Bool.{cases_Bool}
 use Rattle.ch_protocol.specs.Machine.{Config, State, Event, size, workers, passes, can_send, step, run, stopped}
 use Rattle.ch_protocol.specs.Machine.How.{Take}
 use Rattle.ch_protocol.specs.Machine.Event.{Send, Up, Down, Back}
-use Rattle.ch_protocol.specs.Drain.{repeat, resends, sends, take_turn, turns, round, empty_up, empty_down, empty_back, most_rounds, drain}
+use Rattle.ch_protocol.specs.Drain.{resend_events, repeat, resends, sends, take_turn, turns, round, empty_up, empty_down, empty_back, most_rounds, drain}
 use Rattle.ch_protocol_laws.proofs.Fuel.{step_stopped, repeat_stopped, round_stopped}
-use Rattle.ch_protocol.specs.DrainEvents.{resend_events, send_events, turn_events, turns_events, back_events, links_events, round_events, rounds_events, drain_events}
+use Rattle.ch_protocol.specs.DrainEvents.{send_events, turn_events, turns_events, back_events, links_events, round_events, rounds_events, drain_events}
 
 pub run_append : (c : Config) (xs ys : List Event) (s : State) → run c (xs ++ ys) s ≡ run c ys (run c xs s)
 run_append c [] ys s = refl

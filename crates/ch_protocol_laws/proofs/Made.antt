@@ -9,7 +9,7 @@ use Rattle.ch_protocol.specs.Receiver.{has}
 use Rattle.ch_protocol.specs.Machine.{Config, State, Event, size, workers, passes, can_send, count_step, effect, step, run, confirmed, stopped, fate_at, meet, meet_at, receive_at, learn, learn_at, send, send_next, resend, resend_this}
 use Rattle.ch_protocol.specs.Machine.How.{Take}
 use Rattle.ch_protocol.specs.Machine.Event.{Send, Resend, Up, Down, Back}
-use Rattle.ch_protocol.specs.Drain.{most_rounds, resends, take_turn, turns, round, empty_up, empty_down}
+use Rattle.ch_protocol.specs.Drain.{resend_events, most_rounds, resends, take_turn, turns, round, empty_up, empty_down}
 use Rattle.ch_protocol.proofs.Tests.{either_way}
 use Rattle.ch_protocol_laws.proofs.Ways.{IsReady, step_cases, step_ready}
 use Rattle.ch_protocol.specs.Fates.{event_fate, switch_fate, resend_fate, up_fate, down_fate, back_fate, is_made}
@@ -17,7 +17,7 @@ use Rattle.ch_protocol.specs.declared.fate.Fate.{Fate}
 use Rattle.ch_protocol.specs.declared.fate.Fate.TheVariants.{Dropped, Pruned, Forwarded, Passed}
 use Rattle.ch_protocol.specs.declared.fate.NoteFate.{NoteFate}
 use Rattle.ch_protocol.specs.declared.fate.NoteFate.TheVariants.{New, Old, Taken, Ignored}
-use Rattle.ch_protocol.specs.DrainEvents.{resend_events, send_events, turn_events, turns_events, back_events, links_events, round_events, rounds_events, drain_events, AreMade}
+use Rattle.ch_protocol.specs.DrainEvents.{send_events, turn_events, turns_events, back_events, links_events, round_events, rounds_events, drain_events, AreMade}
 use Rattle.ch_protocol_laws.proofs.Meets.{meet_cases}
 use Rattle.ch_protocol_laws.proofs.Rounds.{meet_up}
 use Rattle.ch_protocol_laws.proofs.DrainEvents.{run_replicate, run_turn, run_turns, run_sends, run_round}
