@@ -14,3 +14,5 @@ pub mod SkylineCover
 pub mod SemiCover
 pub mod WorkedTexts
 pub mod SoundQueries
+pub mod PartBits
+pub mod PartNames

@@ -61,7 +61,7 @@ module _ (texts : List (List ℕ)) (ascends : Ascends texts) (kinds : ℕ → �
   is_reading f = record { rises = (λ side at. column_rises texts ascends (kinds side at)); fits = fits_shape b.shape f }
 
   -- the packed words of a row stand for its cells
-  packed_stand : (side : ℕ) (row : List Cell) → Each (λ at. FitsKind texts (kinds side at) (slice_index_or row at (cell.Number (pos 0)))) (carried_of b side)
+  pub packed_stand : (side : ℕ) (row : List Cell) → Each (λ at. FitsKind texts (kinds side at) (slice_index_or row at (cell.Number (pos 0)))) (carried_of b side)
       → (at : ℕ) → IsCarried b side at → cells_seen row side at ≡ d side at (words_seen b (packed texts b side row) side at)
   packed_stand side row f at c =
       word_read texts ascends (kinds side at) (slice_index_or row at (cell.Number (pos 0))) (f at c)

@@ -11,7 +11,7 @@ use Rattle.ch_lists.specs.Members.{In, Each}
 use Rattle.ch_lists.proofs.Members.{In-left, In-right}
 use Rattle.ch_pred.specs.Plain.{Plain, Plains, Truth, Compare, Between, Within, Like, And, Or, Not, nil, cons, plain_of}
 use Rattle.ch_pred.specs.Names.{Names, NamesArg, AllName}
-use Rattle.ch_pred.specs.Named.{arg_cols, pred_cols, all_cols, printed_cols, shape_cols, inner_cols}
+use Rattle.ch_pred.specs.Named.{all_cols, arg_cols, inner_cols, outer_named, pred_cols, printed_cols, shape_cols}
 use Rattle.ch_pred.specs.Sound.{IsSound, IsCarried, AreSided, PrintsKeys, AreAlike, KeysAlike, SumsNumbers, has_one_table, kind_of, sides_of}
 use Rattle.ch_pred.specs.declared.bound.Bound.{Bound}
 use Rattle.ch_pred.specs.declared.bound.Dim.{Dim}
@@ -145,6 +145,13 @@ pub sound_names : (b : Bound) → IsSound b → NamesOnly (IsCarried b) b
 sound_names b s =
     let t = told (IsCarried b) (plain_of b.filter) b.printed b.shape s.columns s.sides (one_side b s.tables.1) s.keys in
     record { filter = t.0; shape = t.1 }
+
+pub sound_filter : (b : Bound) → IsSound b → Names (IsCarried b) (plain_of b.filter)
+sound_filter b s =
+    let cols = pred_cols (plain_of b.filter) in
+    let items = printed_cols b.printed in
+    let has = IsCarried b in
+    names_pred has (plain_of b.filter) (front has cols items (front has (cols ++ items) (shape_cols b.shape) (front has (outer_named b) (inner_cols b.shape) s.columns)))
 
 -- the kinds by which words are read fit
 same_kinds : (k l : Kind) → AreAlike k l → key_kind k l ≡ key_kind l k

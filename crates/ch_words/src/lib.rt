@@ -2,13 +2,18 @@
 //! order of the rows, and what the laws of pruning say of it.
 #![tactic(auto)]
 
-ghost use Rattle.std.specs.Prelude.{◌≡◌, ℕ, ℤ, pos, Bool, true, List, Option, IsPermutation};
+ghost use Rattle.std.specs.Prelude.{◌≡◌, ℕ, ℤ, pos, Bool, true, List, Option, IsPermutation, slice_index_or};
 ghost use Rattle.ch_cells.specs.declared.Cell.{Cell};
+ghost use Rattle.ch_cells.specs.declared.Cell.TheVariants as cell;
 ghost use Rattle.ch_cells.specs.declared.Kind.{Kind};
+ghost use Rattle.ch_lists.specs.Members.{Each};
+ghost use Rattle.ch_pred.specs.Holds.{holds_of};
+ghost use Rattle.ch_pred.specs.Names.{Names};
+ghost use Rattle.ch_pred.specs.Part.{part_of};
 ghost use Rattle.ch_lists.specs.Ordered.{IsExactOrder, SameBag};
 ghost use Rattle.ch_cover.specs.Rows.{Row, Policy, AreRows};
 ghost use Rattle.ch_cover.specs.Cover.{CoversOnce, CoversTwice};
-ghost use Rattle.ch_pred.specs.Values.{View, words};
+ghost use Rattle.ch_pred.specs.Values.{View, cells_seen, words};
 ghost use Rattle.ch_pred.specs.Meaning.{Asked, answer_to, answer, asked_of_cells, line, at, at_each, amount, dominates};
 ghost use Rattle.ch_pred.specs.declared.bound.Bound.{Bound};
 ghost use Rattle.ch_pred.specs.declared.bound.Dim.{Dim};
@@ -16,13 +21,13 @@ ghost use Rattle.ch_pred.specs.declared.bound.Shape.TheVariants as shape;
 ghost use Rattle.ch_pred.specs.declared.pred.Col.{Col};
 ghost use Rattle.ch_words.specs.Words.{Reading, asked_of_words, read_answer};
 ghost use Rattle.ch_words.specs.Readings.{IsReading, NamesOnly, AllStandFor, left_of, right_of};
-ghost use Rattle.ch_words.specs.Rows.{answer_over, Gate, GateFits, is_gated, answer_of_open, row_seen};
+ghost use Rattle.ch_words.specs.Rows.{answer_over, Gate, GateFits, is_gated, answer_of_open, row_seen, words_seen};
 ghost use Rattle.ch_words.specs.Ranks.{read_by};
-ghost use Rattle.ch_words.specs.Packets.{AreSound, TablesFit, all_sent, kinds_read};
+ghost use Rattle.ch_words.specs.Packets.{AreSound, FitsKind, TablesFit, all_sent, kinds_read, packed};
 ghost use Rattle.ch_pred.specs.Plain.{plain_of};
 ghost use Rattle.ch_words.specs.Gates.{gate_of};
 ghost use Rattle.ch_ranks.specs.Dictionary.{Ascends};
-ghost use Rattle.ch_pred.specs.Sound.{IsCarried, IsSound, IsWhole, has_one_table};
+ghost use Rattle.ch_pred.specs.Sound.{IsCarried, IsSound, carried_of, IsWhole, has_one_table};
 ghost use Rattle.ch_words.specs.Prunable.{PrunesBeaten, PrunesMatched, PrunesDominated, PrunesSmall, PrunesAlone, PrunesUnmatched, is_summed};
 ghost use Rattle.ch_words.specs.Worked.{DistinctTexts};
 ghost use Rattle.ch_words.specs.Policies.{Key, by_bit, least_recent};
@@ -62,6 +67,15 @@ pub fn sound_queries_fit()
     ensures names { (b : Bound) → IsSound b → NamesOnly (IsCarried b) b }
     ensures tables { (texts : List (List ℕ)) (b : Bound) (tables : List (List (List Cell))) → IsSound b → Ascends texts → TablesFit texts b tables
         → AreSound texts (kinds_read b b.shape) b tables }
+{}
+
+/// A row's gate, which is its bit, is whether the part of its side holds on the row's cells. The part names columns of that
+/// side alone.
+pub fn parts_tell_bits()
+    ensures names { (b : Bound) → IsSound b → (side : ℕ) → Names (λ s at. (s ≡ side) × IsCarried b s at) (part_of (plain_of b.filter) side) }
+    ensures bit { (texts : List (List ℕ)) (kinds : ℕ → ℕ → Kind) (b : Bound) → IsSound b → Ascends texts → (side : ℕ) (row : List Cell)
+        → Each (λ at. FitsKind texts (kinds side at) (slice_index_or row at (cell.Number (pos 0)))) (carried_of b side)
+        → holds_of (cells_seen row) (part_of (plain_of b.filter) side) ≡ gate_of (read_by texts kinds) b side (words_seen b (packed texts b side row)) }
 {}
 
 /// Over rows of one table whose bit is their gate, the rows that hold are those whose bit is set.
