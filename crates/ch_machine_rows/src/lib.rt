@@ -1,9 +1,11 @@
-//! Worked rows of the register machine: programs that are refused, and programs that run.
+//! Worked rows of the register machine: program texts that are measured, refused and run.
 #![tactic(auto)]
 
+#[cfg(test)]
+mod ends;
 #[cfg(test)]
 mod refused;
 #[cfg(test)]
 mod runs;
 #[cfg(test)]
-mod small;
+mod text;

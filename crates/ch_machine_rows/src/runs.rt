@@ -1,194 +1,108 @@
-use crate::small::{Reach, with_access, with_op};
-use ch_cells::Memory;
-use ch_ir::{Array, Binary, Op, Operand, Program, Test, Update, default_profile};
+use crate::text::{cells, installed, numbers, program, step};
 use ch_pipe::Pipe;
-use ch_verify::{is_countable, verify};
-use std::alloc::Global;
 use std::process::Abort;
 use std::test::Fail;
 
-const LEAST: i64 = i64::MIN;
+/// A program that keeps the last key of each entry, and prunes a row whose key is the last one there.
+const LAST_KEYS: &str = "\
+width 4
+array 4 2
+stage
+op 4 ne w2 #0
+op 5 hash 0 4 w3
+access 0 w5 w4 keyeq:1 w3 put:#1,put:w3 put:#1,put:w3 6 8
+stage
+op 9 lt w8 w4
+op 10 eq w9 #0
+verdict 10
+";
 
-const MOST: i64 = i64::MAX;
+/// A program that counts the first pair of words of each entry, and prunes a pair that was counted twice before.
+const COUNTED_PAIRS: &str = "\
+width 5
+array 8 4
+stage
+op 5 hash 7 8 w3,w4
+access 0 w5 w2 keyorfree:2 w3,w4 put:#1,put:w3,put:w4,addsat:#1 keep,keep,keep,keep 6 10
+stage
+op 11 le #2 w9
+op 12 and w10 w11
+verdict 12
+";
 
-const A: Operand = Operand::Word(3);
+/// A program of two arrays. The first keeps the greatest and the least of the words below 5 and of the others; where a
+/// greatest is taken, the second adds the word, and a row is pruned where less than 3 stood there.
+const TWO_ARRAYS: &str = "\
+width 4
+array 2 3
+array 3 1
+stage
+op 4 le #5 w3
+access 0 w4 #1 less:1 w3 put:#1,max:w3,min:w3 keep,keep,min:w3 5 8
+stage
+op 9 pick w5 #2 #0
+access 1 w9 w8 always - addsat:w3 keep 10 11
+stage
+op 12 set w10
+op 13 lt w12 #3
+verdict 13
+";
 
-/// The program in a pipeline.
-fn installed(rt: &(impl Abort + AllocGlobal), program: Program) -> Result<Pipe, Memory> {
-    assert!(rt; is_countable(&program));
-    match verify(rt.alloc(), program, &default_profile()) {
-        Ok(checked) => Pipe::install(rt.alloc(), checked),
-        Err(_) => panic!(rt; "the program is refused"),
+/// A program, rows, which of them are pruned (`p`) and which kept (`k`), and all cells after them.
+const RUNS: &[(&str, &str, &str, &str)] = &[
+    (
+        "width 3\nstage\nop 3 lt w2 #5\nverdict 3\n",
+        "1,0,3 1,0,5 1,0 -",
+        "pkpp",
+        "-",
+    ),
+    (
+        LAST_KEYS,
+        "1,0,1,3 1,0,1,3 1,0,1,0 1,0,0,0 1,0,1,3",
+        "kpkpk",
+        "1,3,0,0,0,0,0,0",
+    ),
+    (
+        COUNTED_PAIRS,
+        "1,0,1,5,6 1,0,1,5,6 1,0,1,5,6 1,0,1,6,5 1,0,0,5,6 1,0,1,5,6 1,0,1,5",
+        "kkpkkpk",
+        "0,0,0,0,0,0,0,0,1,6,5,1,0,0,0,0,0,0,0,0,1,5,0,1,1,5,6,4,0,0,0,0",
+    ),
+    (
+        TWO_ARRAYS,
+        "1,0,1,4 1,0,1,2 1,0,1,8 1,0,1,-3 1,0,1,9 1,0,1,9 1,0,1,10",
+        "ppkpppk",
+        "1,4,-3,1,10,0,12,0,19",
+    ),
+];
+
+fn verdicts(rt: &(impl Abort + AllocGlobal), pipe: &mut Pipe, rows: &str) -> Result<String, Fail> {
+    let mut found = String::new(rt.alloc());
+    for row in rows.split(' ') {
+        let words = numbers(rt.alloc(), row)?;
+        found.push(if step(rt, pipe, words.as_slice()) {
+            'p'
+        } else {
+            'k'
+        })?;
     }
-}
-
-/// The verdict on a row.
-fn steps(rt: &impl Abort, pipe: &mut Pipe, words: &[i64]) -> bool {
-    assert!(rt; words.len() <= pipe.program().width as usize);
-    pipe.step(words)
-}
-
-/// The cell of an entry of array 0.
-fn cell(rt: &impl Abort, pipe: &Pipe, entry: u32) -> i64 {
-    let arrays = pipe.program().arrays.as_slice();
-    assert_eq!(rt; arrays.len(), 1);
-    assert!(rt; entry < arrays[0].entries && 0 < arrays[0].cells);
-    pipe.cell(0, entry, 0)
-}
-
-const CELL: Array = Array {
-    entries: 1,
-    cells: 1,
-};
-
-/// An access to entry 0, always and without a key.
-const ALWAYS: Reach = Reach {
-    array: 0,
-    index: Operand::Const(0),
-    guard: Operand::Const(1),
-    test: Test::Always,
-    key: None,
-    old: 10,
-    hit: 11,
-};
-
-/// A program that adds 5 to the cell of entry 0 where the guard isn't 0.
-fn adding(alloc: Global, guard: i64) -> Result<Program, Memory> {
-    let array = Array {
-        entries: 2,
-        cells: 1,
-    };
-    let guard = Operand::Const(guard);
-    let add = Update::AddSat(Operand::Const(5));
-    with_access(
-        alloc,
-        array,
-        Op::Set(9, A),
-        Reach { guard, ..ALWAYS },
-        add,
-        Update::Keep,
-    )
-}
-
-/// A program whose first row finds its cell free and puts a value there, and whose later rows update it.
-fn updating(alloc: Global, first: i64, update: Update) -> Result<Program, Memory> {
-    let reach = Reach {
-        test: Test::Less(0),
-        key: Some(Operand::Const(LEAST)),
-        ..ALWAYS
-    };
-    let put = Update::Put(Operand::Const(first));
-    with_access(alloc, CELL, Op::Set(9, A), reach, put, update)
-}
-
-/// A program that puts the op's word 9 into its cell.
-fn putting(alloc: Global, op: Op) -> Result<Program, Memory> {
-    let put = Update::Put(Operand::Word(9));
-    with_access(alloc, CELL, op, ALWAYS, put, put)
+    Ok(found)
 }
 
 #[test]
-fn checker_steps(rt: HostRuntime) -> Result<(), Fail> {
-    let op = Op::Two(5, Binary::Lt, Operand::Word(2), Operand::Const(5));
-    let mut pipe = installed(&rt, with_op(rt.alloc(), 3, op, 5)?)?;
-    let table: [(&[i64], bool); 4] = [
-        (&[1, 0, 3], true),
-        (&[1, 0, 5], false),
-        (&[1, 0], true),
-        (&[], true),
-    ];
-    for (words, want) in table {
-        assert_eq!(rt; steps(&rt, &mut pipe, words), want, "on {words:?}");
-    }
-    Ok(())
-}
-
-#[test]
-fn guarded_addition(rt: HostRuntime) -> Result<(), Fail> {
-    for (guard, want) in [(1, 10), (0, 0)] {
-        let mut pipe = installed(&rt, adding(rt.alloc(), guard)?)?;
-        steps(&rt, &mut pipe, &[]);
-        steps(&rt, &mut pipe, &[]);
-        assert_eq!(rt; cell(&rt, &pipe, 0), want);
-        assert_eq!(rt; cell(&rt, &pipe, 1), 0);
+fn programs_run(rt: HostRuntime) -> Result<(), Fail> {
+    for (lines, rows, want, after) in RUNS {
+        let mut pipe = installed(&rt, program(rt.alloc(), lines)?)?;
+        let found = verdicts(&rt, &mut pipe, rows)?;
+        assert!(rt; found.as_str() == *want, "{found} on {rows}");
+        let left = cells(&rt, &pipe)?;
+        let after = numbers(rt.alloc(), after)?;
+        assert_eq!(rt; left.as_slice(), after.as_slice(), "after {rows}");
         pipe.clear();
-        assert_eq!(rt; cell(&rt, &pipe, 0), 0);
-        assert_eq!(rt; cell(&rt, &pipe, 1), 0);
-    }
-    Ok(())
-}
-
-#[test]
-fn ops_of_two_at_the_ends(rt: HostRuntime) -> Result<(), Fail> {
-    let table = [
-        (Binary::Add, MOST, 1, MOST),
-        (Binary::Add, LEAST, -1, LEAST),
-        (Binary::Add, MOST, LEAST, -1),
-        (Binary::Sub, LEAST, 1, LEAST),
-        (Binary::Sub, 0, LEAST, MOST),
-        (Binary::Lt, LEAST, MOST, 1),
-        (Binary::Lt, MOST, MOST, 0),
-        (Binary::Le, MOST, MOST, 1),
-        (Binary::Le, MOST, LEAST, 0),
-        (Binary::Eq, LEAST, LEAST, 1),
-        (Binary::Eq, LEAST, MOST, 0),
-        (Binary::Ne, LEAST, MOST, 1),
-        (Binary::Ne, MOST, MOST, 0),
-        (Binary::And, LEAST, MOST, 1),
-        (Binary::And, LEAST, 0, 0),
-        (Binary::Or, 0, LEAST, 1),
-        (Binary::Or, 0, 0, 0),
-        (Binary::Mask, LEAST, -1, LEAST),
-        (Binary::Mask, LEAST, MOST, 0),
-    ];
-    for (kind, a, b, want) in table {
-        let op = Op::Two(9, kind, A, Operand::Const(b));
-        let mut pipe = installed(&rt, putting(rt.alloc(), op)?)?;
-        steps(&rt, &mut pipe, &[1, 0, 1, a]);
-        assert_eq!(rt; cell(&rt, &pipe, 0), want, "{kind:?} of {a} and {b}");
-    }
-    Ok(())
-}
-
-#[test]
-fn bits_and_picks(rt: HostRuntime) -> Result<(), Fail> {
-    for (a, bit, picked) in [
-        (0, 1, LEAST),
-        (61, 1 << 61, MOST),
-        (62, 0, MOST),
-        (-1, 0, MOST),
-        (LEAST, 0, MOST),
-        (MOST, 0, MOST),
-    ] {
-        let mut pipe = installed(&rt, putting(rt.alloc(), Op::Bit(9, A))?)?;
-        steps(&rt, &mut pipe, &[1, 0, 1, a]);
-        assert_eq!(rt; cell(&rt, &pipe, 0), bit, "2 to the {a}");
-        let op = Op::Pick(9, A, Operand::Const(MOST), Operand::Const(LEAST));
-        let mut pipe = installed(&rt, putting(rt.alloc(), op)?)?;
-        steps(&rt, &mut pipe, &[1, 0, 1, a]);
-        assert_eq!(rt; cell(&rt, &pipe, 0), picked, "by {a}");
-    }
-    Ok(())
-}
-
-#[test]
-fn updates_at_the_ends(rt: HostRuntime) -> Result<(), Fail> {
-    let table = [
-        (MOST, Update::Keep, LEAST, MOST),
-        (LEAST, Update::Put(A), MOST, MOST),
-        (MOST, Update::AddSat(A), 1, MOST),
-        (LEAST, Update::AddSat(A), -1, LEAST),
-        (MOST, Update::Min(A), LEAST, LEAST),
-        (LEAST, Update::Min(A), MOST, LEAST),
-        (LEAST, Update::Max(A), MOST, MOST),
-        (MOST, Update::Max(A), LEAST, MOST),
-        (LEAST, Update::Or(A), MOST, -1),
-    ];
-    for (first, update, by, want) in table {
-        let mut pipe = installed(&rt, updating(rt.alloc(), first, update)?)?;
-        steps(&rt, &mut pipe, &[]);
-        steps(&rt, &mut pipe, &[1, 0, 1, by]);
-        assert_eq!(rt; cell(&rt, &pipe, 0), want, "{update:?} of {first} by {by}");
+        let left = cells(&rt, &pipe)?;
+        assert!(rt; left.iter().all(|cell| *cell == 0));
+        let again = verdicts(&rt, &mut pipe, rows)?;
+        assert!(rt; again.as_str() == *want, "{again} on {rows} again");
     }
     Ok(())
 }
