@@ -1,2 +1,4 @@
-pub mod Outcomes
+pub mod Commands
 pub mod Promised
+pub mod Readings
+pub mod Verdicts

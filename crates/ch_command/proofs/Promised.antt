@@ -1,19 +1,19 @@
--- A verdict that fits, and that ends as it must, keeps the promise of a call.
-use Rattle.std.proofs.Common.{◌≡◌, ◌⊎◌, inl, inr, ℕ, false, List, Option, Result, Ok, Err, refl, arith}
+-- A verdict that fits, and that is said as it must be, keeps the promise of a call.
+use Rattle.std.proofs.Common.{◌≡◌, ◌⊎◌, ap, inl, inr, ℕ, false, List, [], Option, Some, sym, arith}
 use Rattle.ch_outside.specs.Shelf.{Files}
-use Rattle.ch_command.specs.Call.{Call, Causes, Change, Failed, Faults, Gains, Headline, IsResult, Promise, RanOut, ReadFailed, WriteFailed}
-use Rattle.ch_command.specs.Ending.{Ends, Fits}
-use Rattle.ch_command.specs.Outcome.{Command, answered, refused}
-use Rattle.ch_command.specs.Status.{code_of, refusal_code}
-use Rattle.ch_command.specs.declared.status.Refusal.{Refusal}
-use Rattle.ch_command.specs.declared.status.Refusal.TheVariants as refusal
+use Rattle.ch_command.specs.Call.{Call, Causes, Change, Failed, Faults, Gains, GainsWhole, Headline, IsResult, Promise, RanOut, ReadFailed, WriteFailed}
+use Rattle.ch_command.specs.Command.{Command}
+use Rattle.ch_command.specs.Status.{code_of, exit_code, is_usage}
+use Rattle.ch_command.specs.Verdict.{Ends, Fits, GivesUp, Says}
+use Rattle.ch_command.specs.declared.outcome.Ending.{Ending}
+use Rattle.ch_command.specs.declared.outcome.Ending.TheVariants.{Done, Usage, Input, Rejected, Open}
+use Rattle.ch_command.specs.declared.outcome.Outcome.{Outcome}
 use Rattle.ch_command.specs.declared.status.Status.{Status}
 use Rattle.ch_command.specs.declared.status.Status.TheVariants as status
-use Rattle.ch_command.specs.declared.stop.Stop.{Stop}
-use Rattle.ch_command.specs.declared.stop.Stop.TheVariants as stop
+use Rattle.ch_command.specs.declared.verdict.Verdict.{Verdict}
+use Rattle.ch_command.specs.declared.verdict.Verdict.TheVariants.{Said, ReadFault, Memory}
 
-abbrev call_of : Option Files → Faults → Change → Change → ℕ → Call
-call_of told shelf out err code = record { told = told; shelf = shelf; out = out; err = err; status = code }
+-- The four ways in which a call may end.
 
 by_result : (command : Command) (call : Call) (files : Files) → IsResult command files call → Headline command call files
 by_result command call files is = record { exact = λ shelf out err. inl is; faulty = inl is }
@@ -22,16 +22,14 @@ by_memory : (command : Command) (call : Call) (files : Files) → RanOut command
 by_memory command call files is = record { exact = λ shelf out err. inr is; faulty = inr (inl is) }
 
 by_read : (command : Command) (call : Call) (files : Files) → ReadFailed command call → Headline command call files
-by_read command call files is = record { exact = λ shelf out err. absurd (shelf is.failed); faulty = inr (inr (inl is)) }
+by_read command call files is = record { exact = λ shelf out err. absurd (shelf is.at.failed); faulty = inr (inr (inl is)) }
 
-neither : {A B : Type 0} → (A → ⊥) → (B → ⊥) → A ⊎ B → ⊥
-neither a b (inl x) = a x
-neither a b (inr y) = b y
+by_write : (command : Command) (call : Call) (files : Files) → Failed call.out.faults ⊎ Failed call.err.faults → WriteFailed command files call → Headline command call files
+by_write command call files (inl failed) is = record { exact = λ shelf out err. absurd (out failed); faulty = inr (inr (inr is)) }
+by_write command call files (inr failed) is = record { exact = λ shelf out err. absurd (err failed); faulty = inr (inr (inr is)) }
 
-by_write : (command : Command) (call : Call) (files : Files) → WriteFailed command files call → Headline command call files
-by_write command call files is = record { exact = λ shelf out err. absurd (neither out err is.failed); faulty = inr (inr (inr is)) }
+-- Their causes.
 
--- neither 1 nor 5 nor 6
 plain_causes : (command : Command) (call : Call) → command.is_misuse ≡ false → (call.status ≡ 1 → ⊥) → (call.status ≡ 5 → ⊥) → (call.status ≡ 6 → ⊥) → Causes command call
 plain_causes command call fine one five six = record {
   misuse = λ q. absurd (one q);
@@ -40,79 +38,93 @@ plain_causes command call fine one five six = record {
   write_fault = λ q. absurd (six q);
 }
 
--- memory ran out, or a put failed
-ended_causes : (command : Command) (call : Call) → (call.status ≡ 7) ⊎ ((call.status ≡ 6) × (Failed call.out.faults ⊎ Failed call.err.faults)) → Causes command call
-ended_causes command call (inl seven) = record {
-  misuse = λ q. absurd (omega arith);
+said_causes : (command : Command) (call : Call) (e : Ending) → is_usage e ≡ command.is_misuse → call.status ≡ code_of e → Causes command call
+said_causes command call Done m s = plain_causes command call (sym m) (λ q. omega (arith, s, q)) (λ q. omega (arith, s, q)) (λ q. omega (arith, s, q))
+said_causes command call Usage m s = record { misuse = λ q. sym m; misused = λ q. inl s; read_fault = λ q. absurd (omega (arith, s, q)); write_fault = λ q. absurd (omega (arith, s, q)) }
+said_causes command call Input m s = plain_causes command call (sym m) (λ q. omega (arith, s, q)) (λ q. omega (arith, s, q)) (λ q. omega (arith, s, q))
+said_causes command call Rejected m s = plain_causes command call (sym m) (λ q. omega (arith, s, q)) (λ q. omega (arith, s, q)) (λ q. omega (arith, s, q))
+said_causes command call Open m s = plain_causes command call (sym m) (λ q. omega (arith, s, q)) (λ q. omega (arith, s, q)) (λ q. omega (arith, s, q))
+
+memory_causes : (command : Command) (call : Call) → call.status ≡ 7 → Causes command call
+memory_causes command call seven = record {
+  misuse = λ q. absurd (omega (arith, seven, q));
   misused = λ q. inr (inr seven);
-  read_fault = λ q. absurd (omega arith);
-  write_fault = λ q. absurd (omega arith);
-}
-ended_causes command call (inr six) = record {
-  misuse = λ q. absurd (omega (arith, six.0));
-  misused = λ q. inr (inl six.0);
-  read_fault = λ q. absurd (omega (arith, six.0));
-  write_fault = λ q. six.1;
+  read_fault = λ q. absurd (omega (arith, seven, q));
+  write_fault = λ q. absurd (omega (arith, seven, q));
 }
 
-by_answer : (command : Command) (told : Option Files) (shelf : Faults) (out err : Change) (text : List ℕ) (s : Status) → Fits told shelf command (Ok text) → Ends (Ok text) out err s → Promise command (call_of told shelf out err (code_of s))
-by_answer command told shelf out err text status.Done fits ends = record {
-  headline = λ files e. by_result _ _ _ (record { outcome = answered text; comes = fits.1 files e; status = refl; out = ends.0; err = ends.1 });
-  causes = plain_causes _ _ fits.0 (λ q. absurd (omega arith)) (λ q. absurd (omega arith)) (λ q. absurd (omega arith));
-}
-by_answer command told shelf out err text (status.Refused r) fits ends = absurd ends
-by_answer command told shelf out err text status.WriteFault fits ends = record {
-  headline = λ files e. by_write _ _ _ (record { status = refl; failed = ends.0; out = inr (answered text, fits.1 files e, ends.1) });
-  causes = ended_causes _ _ (inr (refl, ends.0));
-}
-by_answer command told shelf out err text status.Memory fits ends = record {
-  headline = λ files e. by_memory _ _ _ (record { status = refl; out = inl ends.0; err = ends.1 });
-  causes = ended_causes _ _ (inl refl);
+write_causes : (command : Command) (call : Call) → call.status ≡ 6 → Failed call.out.faults ⊎ Failed call.err.faults → Causes command call
+write_causes command call six failed = record {
+  misuse = λ q. absurd (omega (arith, six, q));
+  misused = λ q. inr (inl six);
+  read_fault = λ q. absurd (omega (arith, six, q));
+  write_fault = λ q. failed;
 }
 
-by_want : (command : Command) (told : Option Files) (shelf : Faults) (out err : Change) (s : Status) → Ends (Err stop.Memory) out err s → Promise command (call_of told shelf out err (code_of s))
-by_want command told shelf out err status.Done ends = absurd ends.1
-by_want command told shelf out err (status.Refused r) ends = absurd ends.1
-by_want command told shelf out err status.WriteFault ends = record {
-  headline = λ files e. by_write _ _ _ (record { status = refl; failed = inr ends.1; out = inl ends.0 });
-  causes = ended_causes _ _ (inr (refl, inr ends.1));
+abbrev call_of : Option Files → Faults → Change → Change → Status → Call
+call_of told shelf out err s = record { told = told; shelf = shelf; out = out; err = err; status = exit_code s }
+
+abbrev Keeps : Command → Option Files → Faults → Change → Change → Status → Type 0
+Keeps command told shelf out err s = Promise command (call_of told shelf out err s)
+
+-- Memory ran out, and out gained nothing or the whole.
+by_giving_up : (command : Command) (told : Option Files) (shelf : Faults) (out err : Change) (s : Status) → ((files : Files) → told ≡ Some files → Gains out [] ⊎ ((outcome : Outcome) × command.comes_to files outcome × Gains out outcome.out)) → GivesUp err s → Keeps command told shelf out err s
+by_giving_up command told shelf out err s left (inl up) = record {
+  headline = λ files e. by_memory _ _ _ (record { status = ap exit_code up.0; out = whole files (left files e); err = up.1 });
+  causes = memory_causes _ _ (ap exit_code up.0);
 }
-by_want command told shelf out err status.Memory ends = record {
-  headline = λ files e. by_memory _ _ _ (record { status = refl; out = inl ends.0; err = ends.1 });
-  causes = ended_causes _ _ (inl refl);
+  where
+    whole : (files : Files) → Gains out [] ⊎ ((outcome : Outcome) × command.comes_to files outcome × Gains out outcome.out) → Gains out [] ⊎ GainsWhole command files (call_of told shelf out err s)
+    whole files (inl none) = inl none
+    whole files (inr all) = inr (record { outcome = all.0; comes = all.1; out = all.2 })
+by_giving_up command told shelf out err s left (inr up) = record {
+  headline = λ files e. by_write _ _ _ (inr up.1) (record { status = ap exit_code up.0; at = inr (inr (inl (record { failed = up.1; out = whole files (left files e); err = up.2 }))) });
+  causes = write_causes _ _ (ap exit_code up.0) (inr up.1);
+}
+  where
+    whole : (files : Files) → Gains out [] ⊎ ((outcome : Outcome) × command.comes_to files outcome × Gains out outcome.out) → Gains out [] ⊎ GainsWhole command files (call_of told shelf out err s)
+    whole files (inl none) = inl none
+    whole files (inr all) = inr (record { outcome = all.0; comes = all.1; out = all.2 })
+
+-- An outcome, whose text out took.
+by_saying : (command : Command) (told : Option Files) (shelf : Faults) (out err : Change) (o : Outcome) (s : Status) → Fits told shelf command (Said o) → Gains out o.out → Says o.err (status.Ended o.ending) err s → Keeps command told shelf out err s
+by_saying command told shelf out err o s fits all (inl said) = record {
+  headline = λ files e. by_result _ _ _ (record { outcome = o; comes = fits.1 files e; status = ap exit_code said.0; out = all; err = said.1 });
+  causes = said_causes _ _ o.ending fits.0 (ap exit_code said.0);
+}
+by_saying command told shelf out err o s fits all (inr (inl up)) = by_giving_up command told shelf out err s (λ files e. inr (o, fits.1 files e, all)) up
+by_saying command told shelf out err o s fits all (inr (inr broke)) = record {
+  headline = λ files e. by_write _ _ _ (inr broke.1) (record { status = ap exit_code broke.0; at = inr (inl (record { failed = broke.1; outcome = o; comes = fits.1 files e; out = all; err = broke.2 })) });
+  causes = write_causes _ _ (ap exit_code broke.0) (inr broke.1);
 }
 
--- a refusal whose line was to be said: the promise, where it stands for the line that was said
-by_line : (command : Command) (told : Option Files) (shelf : Faults) (out err : Change) (r : Refusal) (line : List ℕ) (s : Status) →
-    (Gains err line → Promise command (call_of told shelf out err (refusal_code r))) → Ends (Err (stop.Refused r line)) out err s → Promise command (call_of told shelf out err (code_of s))
-by_line command told shelf out err r line status.Done said ends = absurd ends.1
-by_line command told shelf out err r line (status.Refused found) said ends = rw ends.1.0 (said ends.1.1)
-by_line command told shelf out err r line status.WriteFault said ends = record {
-  headline = λ files e. by_write _ _ _ (record { status = refl; failed = inr ends.1; out = inl ends.0 });
-  causes = ended_causes _ _ (inr (refl, inr ends.1));
+by_outcome : (command : Command) (told : Option Files) (shelf : Faults) (out err : Change) (o : Outcome) (s : Status) → Fits told shelf command (Said o) → Ends (Said o) out err s → Keeps command told shelf out err s
+by_outcome command told shelf out err o s fits (inl ends) = by_saying command told shelf out err o s fits ends.0 ends.1
+by_outcome command told shelf out err o s fits (inr (inl broke)) = record {
+  headline = λ files e. by_write _ _ _ (inl broke.1) (record { status = ap exit_code broke.0; at = inl (record { failed = broke.1; outcome = o; comes = fits.1 files e; out = broke.2; err = broke.3 }) });
+  causes = write_causes _ _ (ap exit_code broke.0) (inl broke.1);
 }
-by_line command told shelf out err r line status.Memory said ends = record {
-  headline = λ files e. by_memory _ _ _ (record { status = refl; out = inl ends.0; err = ends.1 });
-  causes = ended_causes _ _ (inl refl);
+by_outcome command told shelf out err o s fits (inr (inr up)) = by_giving_up command told shelf out err s (λ files e. inl up.0) up.1
+
+-- The line of a file that wasn't read.
+by_fault : (command : Command) (told : Option Files) (shelf : Faults) (out err : Change) (line : List ℕ) (s : Status) → Fits told shelf command (ReadFault line) → Gains out [] → Says line status.ReadFault err s → Keeps command told shelf out err s
+by_fault command told shelf out err line s fits none (inl said) = record {
+  headline = λ files e. by_read _ _ _ (record { status = ap exit_code said.0; file = fits.1.file; at = record { named = fits.1.named; failed = fits.0; out = none }; err = rw (← fits.1.said) said.1 });
+  causes = record {
+    misuse = λ q. absurd (omega (arith, ap exit_code said.0, q));
+    misused = λ q. cc;
+    read_fault = λ q. (fits.0, none);
+    write_fault = λ q. absurd (omega (arith, ap exit_code said.0, q));
+  };
+}
+by_fault command told shelf out err line s fits none (inr (inl up)) = by_giving_up command told shelf out err s (λ files e. inl none) up
+by_fault command told shelf out err line s fits none (inr (inr broke)) = record {
+  headline = λ files e. by_write _ _ _ (inr broke.1) (record { status = ap exit_code broke.0; at = inr (inr (inr (record { failed = broke.1; file = fits.1.file; at = record { named = fits.1.named; failed = fits.0; out = none }; err = rw (← fits.1.said) broke.2 }))) });
+  causes = write_causes _ _ (ap exit_code broke.0) (inr broke.1);
 }
 
-pub promised : (command : Command) (told : Option Files) (shelf : Faults) (out err : Change) (verdict : Result (List ℕ) Stop) (s : Status) →
-    Fits told shelf command verdict → Ends verdict out err s → Promise command (record { told = told; shelf = shelf; out = out; err = err; status = code_of s })
-promised command told shelf out err (Ok text) s fits ends = by_answer command told shelf out err text s fits ends
-promised command told shelf out err (Err stop.Memory) s fits ends = by_want command told shelf out err s ends
-promised command told shelf out err (Err (stop.Refused refusal.Usage line)) s fits ends = by_line command told shelf out err refusal.Usage line s (λ said. record {
-  headline = λ files e. by_result _ _ _ (record { outcome = refused 1 line; comes = fits.1 files e; status = refl; out = ends.0; err = said });
-  causes = record { misuse = λ q. fits.0; misused = λ q. inl refl; read_fault = λ q. absurd (omega arith); write_fault = λ q. absurd (omega arith) };
-}) ends
-promised command told shelf out err (Err (stop.Refused refusal.Input line)) s fits ends = by_line command told shelf out err refusal.Input line s (λ said. record {
-  headline = λ files e. by_result _ _ _ (record { outcome = refused 2 line; comes = fits.1 files e; status = refl; out = ends.0; err = said });
-  causes = plain_causes _ _ fits.0 (λ q. absurd (omega arith)) (λ q. absurd (omega arith)) (λ q. absurd (omega arith));
-}) ends
-promised command told shelf out err (Err (stop.Refused refusal.Rejected line)) s fits ends = by_line command told shelf out err refusal.Rejected line s (λ said. record {
-  headline = λ files e. by_result _ _ _ (record { outcome = refused 3 line; comes = fits.1 files e; status = refl; out = ends.0; err = said });
-  causes = plain_causes _ _ fits.0 (λ q. absurd (omega arith)) (λ q. absurd (omega arith)) (λ q. absurd (omega arith));
-}) ends
-promised command told shelf out err (Err (stop.Refused refusal.ReadFault line)) s fits ends = by_line command told shelf out err refusal.ReadFault line s (λ said. record {
-  headline = λ files e. by_read _ _ _ (record { status = refl; file = fits.1.file; named = fits.1.named; failed = fits.0; out = ends.0; err = rw (← fits.1.said) said });
-  causes = record { misuse = λ q. absurd (omega arith); misused = λ q. cc; read_fault = λ q. (fits.0, ends.0); write_fault = λ q. absurd (omega arith) };
-}) ends
+pub promised : (command : Command) (told : Option Files) (shelf : Faults) (out err : Change) (verdict : Verdict) (s : Status) →
+    Fits told shelf command verdict → Ends verdict out err s → Promise command (record { told = told; shelf = shelf; out = out; err = err; status = exit_code s })
+promised command told shelf out err (Said o) s fits ends = by_outcome command told shelf out err o s fits ends
+promised command told shelf out err (ReadFault line) s fits ends = by_fault command told shelf out err line s fits ends.0 ends.1
+promised command told shelf out err Memory s fits ends = by_giving_up command told shelf out err s (λ files e. inl ends.0) ends.1

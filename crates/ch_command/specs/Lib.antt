@@ -1,6 +1,6 @@
 pub mod Call
-pub mod Ending
+pub mod Command
 pub mod Lines
-pub mod Outcome
 pub mod Reading
 pub mod Status
+pub mod Verdict

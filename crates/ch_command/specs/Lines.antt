@@ -13,5 +13,8 @@ too_large_line file = codes "input: file " ++ file ++ codes " too large\n"
 abbrev pub read_fault_line : List ℕ → List ℕ
 read_fault_line file = codes "read fault: " ++ file ++ codes "\n"
 
+abbrev pub write_fault_line : List ℕ
+write_fault_line = codes "write fault\n"
+
 abbrev pub memory_line : List ℕ
 memory_line = codes "memory\n"

@@ -1,16 +1,30 @@
-ghost use Rattle.std.specs.Prelude.{◌≡◌, ◌≤◌, ◌⊎◌};
+ghost use Rattle.std.specs.Prelude.{◌≡◌, ◌≢◌, ◌≤◌};
 ghost use Rattle.ch_outside.specs.Faults.{StaysReliable};
-ghost use Rattle.ch_command.specs.Ending.{Answers, Ends, GivesUp, Says};
+ghost use Rattle.ch_outside.specs.Sink.{Puts};
+ghost use Rattle.ch_command.specs.Call.{change_of};
+ghost use Rattle.ch_command.specs.Verdict.{Ends, GivesUp, Says, Writes};
 
-use crate::status::{Refusal, Status};
-use crate::stop::Stop;
-use ch_cells::Bytes;
+use crate::outcome::{Ending, Outcome};
+use crate::status::Status;
+use crate::verdict::Verdict;
 use ch_outside::{Sink, SinkError};
 use std::io::ErrorKind;
 
+/// Puts a text, where there is one.
+fn put_text<S: Sink>(sink: &mut S, text: &[u8]) -> Result<(), SinkError>
+    ensures puts { Puts (S.written sink.old) (S.written sink.new) text.now (S.faults sink.old) (S.faults sink.new) result }
+    ensures later { S.faults sink.old ≤ S.faults sink.new }
+    ensures steady { StaysReliable (S.reliable sink.old) (S.reliable sink.new) (S.faults sink.old) (S.faults sink.new) }
+{
+    if text.is_empty() {
+        return Ok(());
+    }
+    sink.put(text)
+}
+
 /// Says that memory ran out, where the sink takes it.
 fn give_up<E: Sink>(err: &mut E) -> Status
-    ensures gives_up { GivesUp (record { old = E.written err.old; new = E.written err.new; faults = record { before = E.faults err.old; now = E.faults err.new } }) result }
+    ensures gives_up { GivesUp (change_of E.written E.faults err.old err.new) result }
     ensures later { E.faults err.old ≤ E.faults err.new }
     ensures steady { StaysReliable (E.reliable err.old) (E.reliable err.new) (E.faults err.old) (E.faults err.new) }
 {
@@ -20,45 +34,29 @@ fn give_up<E: Sink>(err: &mut E) -> Status
     }
 }
 
-/// Says why the command is refused.
-fn say<E: Sink>(err: &mut E, line: &[u8], refusal: Refusal) -> Status
-    ensures says { Says (record { old = E.written err.old; new = E.written err.new; faults = record { before = E.faults err.old; now = E.faults err.new } }) line.now refusal result }
+/// Puts a text on err, and ends with this status.
+fn say<E: Sink>(err: &mut E, text: &[u8], status: Status) -> Status
+    ensures says { Says text.now status (change_of E.written E.faults err.old err.new) result }
     ensures later { E.faults err.old ≤ E.faults err.new }
     ensures steady { StaysReliable (E.reliable err.old) (E.reliable err.new) (E.faults err.old) (E.faults err.new) }
 {
-    match err.put(line) {
-        Ok(()) => Status::Refused(refusal),
+    match put_text(err, text) {
+        Ok(()) => status,
         Err(SinkError::Failed) => Status::WriteFault,
         Err(SinkError::Memory) => give_up(err),
     }
 }
 
-/// Says why the words can't be read: memory ran out, or one of them isn't UTF-8.
-pub fn refuse_words<E: Sink>(err: &mut E, kind: ErrorKind, usage: &[u8]) -> Status
-    ensures said { GivesUp (record { old = E.written err.old; new = E.written err.new; faults = record { before = E.faults err.old; now = E.faults err.new } }) result
-        ⊎ Says (record { old = E.written err.old; new = E.written err.new; faults = record { before = E.faults err.old; now = E.faults err.new } }) usage.now Refusal.Usage result }
-    ensures later { E.faults err.old ≤ E.faults err.new }
-    ensures steady { StaysReliable (E.reliable err.old) (E.reliable err.new) (E.faults err.old) (E.faults err.new) }
-{
-    match kind {
-        ErrorKind::OutOfMemory => give_up(err),
-        _ => say(err, usage, Refusal::Usage),
-    }
-}
-
-/// Writes the answer's text.
-fn answer<O: Sink, E: Sink>(out: &mut O, err: &mut E, text: &[u8]) -> Status
-    ensures answers { Answers
-        (record { old = O.written out.old; new = O.written out.new; faults = record { before = O.faults out.old; now = O.faults out.new } })
-        (record { old = E.written err.old; new = E.written err.new; faults = record { before = E.faults err.old; now = E.faults err.new } })
-        text.now result }
+/// Writes an outcome: its text on out, and then that on err.
+fn write<O: Sink, E: Sink>(outcome: &Outcome, out: &mut O, err: &mut E) -> Status
+    ensures writes { Writes outcome.now (change_of O.written O.faults out.old out.new) (change_of E.written E.faults err.old err.new) result }
     ensures out_later { O.faults out.old ≤ O.faults out.new }
     ensures err_later { E.faults err.old ≤ E.faults err.new }
     ensures out_steady { StaysReliable (O.reliable out.old) (O.reliable out.new) (O.faults out.old) (O.faults out.new) }
     ensures err_steady { StaysReliable (E.reliable err.old) (E.reliable err.new) (E.faults err.old) (E.faults err.new) }
 {
-    match out.put(text) {
-        Ok(()) => Status::Done,
+    match put_text(out, outcome.out.as_slice()) {
+        Ok(()) => say(err, outcome.err.as_slice(), Status::Ended(outcome.ending)),
         Err(SinkError::Failed) => {
             let _ = err.put(b"write fault\n");
             Status::WriteFault
@@ -67,20 +65,30 @@ fn answer<O: Sink, E: Sink>(out: &mut O, err: &mut E, text: &[u8]) -> Status
     }
 }
 
-/// Writes what the command comes to: its text on out, or why it stops on err.
-pub fn end<O: Sink, E: Sink>(verdict: Result<Bytes, Stop>, out: &mut O, err: &mut E) -> Status
-    ensures ends { Ends verdict
-        (record { old = O.written out.old; new = O.written out.new; faults = record { before = O.faults out.old; now = O.faults out.new } })
-        (record { old = E.written err.old; new = E.written err.new; faults = record { before = E.faults err.old; now = E.faults err.new } })
-        result }
+/// Says what the command has to say, and answers its status.
+pub fn end<O: Sink, E: Sink>(verdict: Verdict, out: &mut O, err: &mut E) -> Status
+    ensures ends { Ends verdict (change_of O.written O.faults out.old out.new) (change_of E.written E.faults err.old err.new) result }
     ensures out_later { O.faults out.old ≤ O.faults out.new }
     ensures err_later { E.faults err.old ≤ E.faults err.new }
     ensures out_steady { StaysReliable (O.reliable out.old) (O.reliable out.new) (O.faults out.old) (O.faults out.new) }
     ensures err_steady { StaysReliable (E.reliable err.old) (E.reliable err.new) (E.faults err.old) (E.faults err.new) }
 {
-    match verdict {
-        Ok(text) => answer(out, err, text.as_slice()),
-        Err(Stop::Refused(refusal, line)) => say(err, line.as_slice(), refusal),
-        Err(Stop::Memory) => give_up(err),
+    match &verdict {
+        Verdict::Said(outcome) => write(outcome, out, err),
+        Verdict::ReadFault(line) => say(err, line.as_slice(), Status::ReadFault),
+        Verdict::Memory => give_up(err),
+    }
+}
+
+/// Says why the words can't be read: memory ran out, or one of them isn't UTF-8.
+pub fn refuse_words<E: Sink>(err: &mut E, kind: ErrorKind, usage: &[u8]) -> Status
+    ensures memory { kind ≡ ErrorKind.OutOfMemory → GivesUp (change_of E.written E.faults err.old err.new) result }
+    ensures usage { kind ≢ ErrorKind.OutOfMemory → Says usage.now (Status.Ended Ending.Usage) (change_of E.written E.faults err.old err.new) result }
+    ensures later { E.faults err.old ≤ E.faults err.new }
+    ensures steady { StaysReliable (E.reliable err.old) (E.reliable err.new) (E.faults err.old) (E.faults err.new) }
+{
+    match kind {
+        ErrorKind::OutOfMemory => give_up(err),
+        _ => say(err, usage, Status::Ended(Ending::Usage)),
     }
 }

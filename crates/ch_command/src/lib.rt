@@ -2,14 +2,16 @@
 #![tactic(auto)]
 
 mod ending;
+mod outcome;
 mod reading;
 mod status;
-mod stop;
+mod verdict;
 
 pub use ending::{end, refuse_words};
-pub use reading::{limit_after, read_file};
-pub use status::{Refusal, Status};
-pub use stop::Stop;
+pub use outcome::{Ending, Outcome};
+pub use reading::read_files;
+pub use status::Status;
+pub use verdict::{Misuse, Verdict};
 
 #[cfg(test)]
 mod tests;

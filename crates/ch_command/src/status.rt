@@ -1,23 +1,13 @@
 ghost use Rattle.std.specs.Prelude.{◌≡◌};
-ghost use Rattle.ch_command.specs.Status.{code_of};
+ghost use Rattle.ch_command.specs.Status.{exit_code};
 
-/// Why a command is refused.
-#[derive(Clone, Copy, Debug, PartialEq, Eq)]
-pub enum Refusal {
-    /// The words are no command.
-    Usage,
-    /// A file or a text is none that the command takes.
-    Input,
-    /// What was read breaks a limit or a rule.
-    Rejected,
-    ReadFault,
-}
+use crate::outcome::Ending;
 
 /// How a command ends.
 #[derive(Clone, Copy, Debug, PartialEq, Eq)]
 pub enum Status {
-    Done,
-    Refused(Refusal),
+    Ended(Ending),
+    ReadFault,
     WriteFault,
     Memory,
 }
@@ -25,14 +15,11 @@ pub enum Status {
 impl Status {
     /// The exit status of the program.
     pub fn code(self) -> u8
-        ensures { result ≡ code_of self }
+        ensures { result ≡ exit_code self }
     {
         match self {
-            Status::Done => 0,
-            Status::Refused(Refusal::Usage) => 1,
-            Status::Refused(Refusal::Input) => 2,
-            Status::Refused(Refusal::Rejected) => 3,
-            Status::Refused(Refusal::ReadFault) => 5,
+            Status::Ended(ending) => ending.code(),
+            Status::ReadFault => 5,
             Status::WriteFault => 6,
             Status::Memory => 7,
         }

@@ -1,4 +1,4 @@
-ghost use Rattle.std.specs.Prelude.{◌≡◌, ◌≤◌, None};
+ghost use Rattle.std.specs.Prelude.{◌≡◌, ◌≢◌, ◌≤◌, None};
 ghost use Rattle.ch_outside.specs.Faults.{StaysReliable};
 ghost use Rattle.ch_outside.specs.Shelf.{Reads, ReadsToEnd, faults_after};
 
@@ -31,6 +31,19 @@ impl<'a, R: Files> DiskShelf<'a, R> {
         ensures { result ≡ 0 }
     {
         DiskShelf { rt, faults: 0 }
+    }
+}
+
+/// Why a file wasn't opened.
+fn unopened(kind: ErrorKind) -> ShelfError
+    ensures missing { kind ≡ ErrorKind.NotFound → result ≡ ShelfError.Missing }
+    ensures memory { kind ≡ ErrorKind.OutOfMemory → result ≡ ShelfError.Memory }
+    ensures failed { kind ≢ ErrorKind.NotFound → kind ≢ ErrorKind.OutOfMemory → result ≡ ShelfError.Failed }
+{
+    match kind {
+        ErrorKind::NotFound => ShelfError::Missing,
+        ErrorKind::OutOfMemory => ShelfError::Memory,
+        _ => ShelfError::Failed,
     }
 }
 
@@ -69,10 +82,7 @@ impl<R: Files> Shelf for DiskShelf<'_, R> {
     {
         let answer = match fs::open(self.rt, name) {
             Ok(file) => read_to_end(alloc, file, limit),
-            Err(error) => match error.kind() {
-                ErrorKind::NotFound => Err(ShelfError::Missing),
-                _ => Err(ShelfError::Failed),
-            },
+            Err(error) => Err(unopened(error.kind())),
         };
         if let Err(ShelfError::Failed) = &answer {
             self.faults = self.faults.saturating_add(1);

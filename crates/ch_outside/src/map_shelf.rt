@@ -11,10 +11,16 @@ use std::alloc::Global;
 use std::marker::Model;
 
 /// Files in memory, whose calls fail where they are told to.
-#[derive(Debug, Drop)]
+#[derive(Debug)]
 pub struct MapShelf {
     files: Vec<(String, Bytes)>,
     plan: FaultPlan,
+}
+
+impl Drop for MapShelf {
+    fn drop(self) {
+        let MapShelf { files: _, plan: _ } = self;
+    }
 }
 
 impl Model for MapShelf {

@@ -18,48 +18,53 @@ fn shelf_of(alloc: Global, files: &[(&str, &[u8])], fail: &[u32]) -> Result<MapS
     Ok(MapShelf::new(named, Vec::from_slice(alloc, fail)?))
 }
 
+const FILES: &[(&str, &[u8])] = &[("a", b"first"), ("b", b""), ("a", b"second"), ("", b"x")];
+
+/// Calls of a shelf with these files, of which the second and the eighth fail.
+const READS: &[(&str, usize, Result<&[u8], ShelfError>)] = &[
+    ("a", 5, Ok(b"first")),
+    ("a", 5, Err(ShelfError::Failed)),
+    ("a", 4, Err(ShelfError::TooLarge { taken: 5 })),
+    ("a", 0, Err(ShelfError::TooLarge { taken: 1 })),
+    ("b", 0, Ok(b"")),
+    ("c", 9, Err(ShelfError::Missing)),
+    ("", 1, Ok(b"x")),
+    ("c", 9, Err(ShelfError::Failed)),
+    ("a", 9, Ok(b"first")),
+];
+
 #[test]
 fn files_in_memory_are_read_and_fail_where_told(rt: HostRuntime) -> Result<(), Fail> {
     let alloc = rt.alloc();
-    let files: [(&str, &[u8]); 4] = [("a", b"first"), ("b", b""), ("a", b"second"), ("", b"x")];
-    let mut shelf = shelf_of(alloc, &files, &[1, 7, 1, 4_294_967_295])?;
-    let calls: [(&str, usize, Result<&[u8], ShelfError>); 9] = [
-        ("a", 5, Ok(b"first")),
-        ("a", 5, Err(ShelfError::Failed)),
-        ("a", 4, Err(ShelfError::TooLarge { taken: 5 })),
-        ("a", 0, Err(ShelfError::TooLarge { taken: 1 })),
-        ("b", 0, Ok(b"")),
-        ("c", 9, Err(ShelfError::Missing)),
-        ("", 1, Ok(b"x")),
-        ("c", 9, Err(ShelfError::Failed)),
-        ("a", 9, Ok(b"first")),
-    ];
-    for (at, (name, limit, wanted)) in calls.iter().enumerate() {
+    let mut shelf = shelf_of(alloc, FILES, &[1, 7, 1, 4_294_967_295])?;
+    for (name, limit, wanted) in READS {
         let answer = shelf.read_all(alloc, name, *limit);
         match (&answer, wanted) {
-            (Ok(bytes), Ok(wanted)) => assert_eq!(rt; bytes.as_slice(), *wanted, "call {at}"),
-            (Err(error), Err(wanted)) => assert_eq!(rt; *error, *wanted, "call {at}"),
-            _ => assert!(rt; false, "call {at}"),
+            (Ok(bytes), Ok(wanted)) => assert_eq!(rt; bytes.as_slice(), *wanted, "{name}"),
+            (Err(error), Err(wanted)) => assert_eq!(rt; *error, *wanted, "{name}"),
+            _ => assert!(rt; false, "{name}"),
         }
     }
     Ok(())
 }
+
+/// Calls of a sink, of which the first and the third fail: the piece, whether it was put, and what stands written then.
+const PUTS: &[(&[u8], bool, &[u8])] = &[
+    (b"lost", false, b""),
+    (b"ab", true, b"ab"),
+    (b"", false, b"ab"),
+    (b"", true, b"ab"),
+    (b"c", true, b"abc"),
+];
 
 #[test]
 fn pieces_in_memory_are_put_and_fail_where_told(rt: HostRuntime) -> Result<(), Fail> {
     let alloc = rt.alloc();
     let mut sink = VecSink::new(alloc, Vec::from_slice(alloc, &[2, 0])?);
     assert_eq!(rt; sink.bytes(), b"".as_slice());
-    let calls: [(&[u8], Result<(), SinkError>, &[u8]); 5] = [
-        (b"lost", Err(SinkError::Failed), b""),
-        (b"ab", Ok(()), b"ab"),
-        (b"", Err(SinkError::Failed), b"ab"),
-        (b"", Ok(()), b"ab"),
-        (b"c", Ok(()), b"abc"),
-    ];
-    for (piece, answer, written) in calls {
-        assert_eq!(rt; sink.put(piece), answer, "{piece:?}");
-        assert_eq!(rt; sink.bytes(), written, "{piece:?}");
+    for (piece, put, written) in PUTS {
+        assert_eq!(rt; sink.put(piece).is_ok(), *put, "{piece:?}");
+        assert_eq!(rt; sink.bytes(), *written, "{piece:?}");
     }
     Ok(())
 }

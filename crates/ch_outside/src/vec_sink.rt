@@ -10,10 +10,16 @@ use std::alloc::Global;
 use std::marker::Model;
 
 /// A sink in memory, whose calls fail where they are told to.
-#[derive(Debug, Drop)]
+#[derive(Debug)]
 pub struct VecSink {
     bytes: Vec<u8>,
     plan: FaultPlan,
+}
+
+impl Drop for VecSink {
+    fn drop(self) {
+        let VecSink { bytes: _, plan: _ } = self;
+    }
 }
 
 impl Model for VecSink {

@@ -1,7 +1,6 @@
 use crate::{Room, Table, TableError, read_table};
 use ch_cells::{Bytes, CellRef, Kind, Listed};
 use std::alloc::Global;
-use std::process::Abort;
 use std::test::Fail;
 
 const AMPLE: Room = Room {
@@ -24,89 +23,96 @@ fn read(alloc: Global, parts: &[&[u8]], room: Room) -> Result<Table, TableError>
     read_table(alloc, b"t", &texts, room)
 }
 
-/// Parts are refused so.
-fn refuses(rt: &impl Abort, alloc: Global, parts: &[&[u8]], room: Room, wanted: TableError) {
-    match read(alloc, parts, room) {
-        Ok(_) => assert!(rt; false, "a table, and not {wanted:?}"),
-        Err(error) => assert_eq!(rt; error, wanted),
-    }
-}
+const FEW_ROWS: Room = Room {
+    rows: 3,
+    cells: 100,
+};
 
-#[test]
-fn headers_are_refused_at_the_first_place(rt: HostRuntime) {
-    let alloc = rt.alloc();
-    let none = TableError::NoHeader { part: 0 };
-    refuses(&rt, alloc, &[b""], AMPLE, none);
-    refuses(&rt, alloc, &[b"\xEF\xBB\xBF"], AMPLE, none);
-    refuses(&rt, alloc, &[b"\n\r\n"], AMPLE, none);
-    let late = TableError::NoHeader { part: 2 };
-    refuses(&rt, alloc, &[b"a\n1\n", b"a\n", b""], AMPLE, late);
-}
+const FEW_CELLS: Room = Room { rows: 3, cells: 5 };
 
-#[test]
-fn names_are_refused_at_the_first_place(rt: HostRuntime) {
-    let alloc = rt.alloc();
-    let repeated = TableError::DuplicateColumn { at: 1 };
-    refuses(&rt, alloc, &[b"a,a\n"], AMPLE, repeated);
-    let repeated = TableError::DuplicateColumn { at: 3 };
-    refuses(&rt, alloc, &[b"a,b,c,b,a\n1\n"], AMPLE, repeated);
-    let differs = TableError::HeaderDiffers { part: 1 };
-    refuses(&rt, alloc, &[b"a\n1\n", b"b\n1\n"], AMPLE, differs);
-    refuses(&rt, alloc, &[b"a\n1\n", b"a,b\n"], AMPLE, differs);
-}
+const NOTHING: Room = Room { rows: 0, cells: 0 };
 
-fn ragged(part: u32, row: u32, have: u32, want: u32) -> TableError {
-    TableError::Ragged {
-        part,
-        row,
-        have,
-        want,
-    }
-}
-
-#[test]
-fn ragged_rows_are_refused_at_the_first_place(rt: HostRuntime) {
-    let alloc = rt.alloc();
-    let marked = b"\xEF\xBB\xBFid,name\r\n1,\"a,b\"\r\n007,\r\n3\r\n";
-    refuses(&rt, alloc, &[marked], AMPLE, ragged(0, 2, 1, 2));
-    refuses(
-        &rt,
-        alloc,
+/// Parts, the room that they have, and why they are refused.
+const REFUSED: &[(&[&[u8]], Room, TableError)] = &[
+    (&[b""], AMPLE, TableError::NoHeader { part: 0 }),
+    (&[b"\xEF\xBB\xBF"], AMPLE, TableError::NoHeader { part: 0 }),
+    (&[b"\n\r\n"], AMPLE, TableError::NoHeader { part: 0 }),
+    (
+        &[b"a\n1\n", b"a\n", b""],
+        AMPLE,
+        TableError::NoHeader { part: 2 },
+    ),
+    (&[b"a,a\n"], AMPLE, TableError::DuplicateColumn { at: 1 }),
+    (
+        &[b"a,b,c,b,a\n1\n"],
+        AMPLE,
+        TableError::DuplicateColumn { at: 3 },
+    ),
+    (
+        &[b"a\n1\n", b"b\n1\n"],
+        AMPLE,
+        TableError::HeaderDiffers { part: 1 },
+    ),
+    (
+        &[b"a\n1\n", b"a,b\n"],
+        AMPLE,
+        TableError::HeaderDiffers { part: 1 },
+    ),
+    (
+        &[b"\xEF\xBB\xBFid,name\r\n1,\"a,b\"\r\n007,\r\n3\r\n"],
+        AMPLE,
+        TableError::Ragged {
+            part: 0,
+            row: 2,
+            have: 1,
+            want: 2,
+        },
+    ),
+    (
         &[b"a\n1\n2\n", b"a\n3,4\n"],
         AMPLE,
-        ragged(1, 0, 2, 1),
-    );
-    let few_cells = Room { rows: 3, cells: 5 };
-    refuses(
-        &rt,
-        alloc,
+        TableError::Ragged {
+            part: 1,
+            row: 0,
+            have: 2,
+            want: 1,
+        },
+    ),
+    (
         &[b"a,b\n1,2\n", b"a,b\n3,4\n5\n"],
-        few_cells,
-        ragged(1, 1, 1, 2),
-    );
-}
+        FEW_CELLS,
+        TableError::Ragged {
+            part: 1,
+            row: 1,
+            have: 1,
+            want: 2,
+        },
+    ),
+    (
+        &[b"a\n1\n2\n", b"a\n3\n4\n"],
+        FEW_ROWS,
+        TableError::TooManyRows { part: 1, row: 1 },
+    ),
+    (
+        &[b"a,b\n1,2\n", b"a,b\n3,4\n5,6\n"],
+        FEW_CELLS,
+        TableError::TooManyCells { part: 1, row: 1 },
+    ),
+    (
+        &[b"a,b\n1,2\n"],
+        NOTHING,
+        TableError::TooManyRows { part: 0, row: 0 },
+    ),
+];
 
 #[test]
-fn rows_past_the_room_are_refused(rt: HostRuntime) {
-    let alloc = rt.alloc();
-    let few_rows = Room {
-        rows: 3,
-        cells: 100,
-    };
-    let rows = TableError::TooManyRows { part: 1, row: 1 };
-    refuses(&rt, alloc, &[b"a\n1\n2\n", b"a\n3\n4\n"], few_rows, rows);
-    let few_cells = Room { rows: 3, cells: 5 };
-    let cells = TableError::TooManyCells { part: 1, row: 1 };
-    refuses(
-        &rt,
-        alloc,
-        &[b"a,b\n1,2\n", b"a,b\n3,4\n5,6\n"],
-        few_cells,
-        cells,
-    );
-    let none = Room { rows: 0, cells: 0 };
-    let first = TableError::TooManyRows { part: 0, row: 0 };
-    refuses(&rt, alloc, &[b"a,b\n1,2\n"], none, first);
+fn parts_are_refused_at_the_first_place(rt: HostRuntime) {
+    for (parts, room, wanted) in REFUSED {
+        match read(rt.alloc(), parts, *room) {
+            Ok(_) => assert!(rt; false, "a table, and not {wanted:?}"),
+            Err(error) => assert_eq!(rt; error, *wanted),
+        }
+    }
 }
 
 /// The rows as text, and the kinds of the columns.
@@ -141,40 +147,32 @@ fn shown(alloc: Global, table: &Table) -> Result<String, Fail> {
     Ok(text)
 }
 
-/// Parts are read so.
-fn reads(rt: &impl Abort, alloc: Global, parts: &[&[u8]], wanted: &str) -> Result<(), Fail> {
-    let table = read(alloc, parts, AMPLE)?;
-    assert_eq!(rt; table.name(), b"t".as_slice());
-    assert_eq!(rt; shown(alloc, &table)?.as_str(), wanted);
-    Ok(())
-}
-
-#[test]
-fn parts_follow_one_another(rt: HostRuntime) -> Result<(), Fail> {
-    let alloc = rt.alloc();
-    reads(&rt, alloc, &[b"a\n3\n9\n", b"a\n5\n"], "N / 3 9 / 5")?;
-    reads(&rt, alloc, &[b"a\n"], "V /")?;
-    reads(&rt, alloc, &[b"a,b", b"a,b"], "VV / /")?;
-    reads(&rt, alloc, &[b"a\n1\n", b"a\n", b"\"a\"\n2"], "N / 1 / / 2")?;
-    Ok(())
-}
-
-#[test]
-fn columns_have_their_kinds(rt: HostRuntime) -> Result<(), Fail> {
-    let alloc = rt.alloc();
-    let marked = b"\xEF\xBB\xBFid,name\r\n1,\"a,b\"\r\n007,\r\n";
-    reads(
-        &rt,
-        alloc,
-        &[marked],
+/// Parts, and how they are shown: the kinds of the columns, and behind a bar the cells of each part.
+const READ: &[(&[&[u8]], &str)] = &[
+    (&[b"a\n3\n9\n", b"a\n5\n"], "N / 3 9 / 5"),
+    (&[b"a\n"], "V /"),
+    (&[b"a,b", b"a,b"], "VV / /"),
+    (&[b"a\n1\n", b"a\n", b"\"a\"\n2"], "N / 1 / / 2"),
+    (
+        &[b"\xEF\xBB\xBFid,name\r\n1,\"a,b\"\r\n007,\r\n"],
         "TT / [49] [97, 44, 98] [48, 48, 55] []",
-    )?;
-    let ends = b"a,b\n2305843009213693951,2305843009213693952\n";
-    let shown =
-        "NT / 2305843009213693951 [50, 51, 48, 53, 56, 52, 51, 48, 48, 57, 50, 49, 51, 54, 57, 51, 57, 53, 50]";
-    reads(&rt, alloc, &[ends], shown)?;
-    reads(&rt, alloc, &[b"a\n1\n", b"a\nx\n"], "T / [49] / [120]")?;
-    reads(&rt, alloc, &[b"a,b\n-5,-0\n"], "NT / -5 [45, 48]")?;
+    ),
+    (
+        &[b"a,b\n2305843009213693951,2305843009213693952\n"],
+        "NT / 2305843009213693951 [50, 51, 48, 53, 56, 52, 51, 48, 48, 57, 50, 49, 51, 54, 57, 51, 57, 53, 50]",
+    ),
+    (&[b"a\n1\n", b"a\nx\n"], "T / [49] / [120]"),
+    (&[b"a,b\n-5,-0\n"], "NT / -5 [45, 48]"),
+];
+
+#[test]
+fn parts_are_read(rt: HostRuntime) -> Result<(), Fail> {
+    let alloc = rt.alloc();
+    for (parts, wanted) in READ {
+        let table = read(alloc, parts, AMPLE)?;
+        assert_eq!(rt; table.name(), b"t".as_slice());
+        assert_eq!(rt; shown(alloc, &table)?.as_str(), *wanted);
+    }
     Ok(())
 }
 

@@ -1,4 +1,4 @@
 pub mod Bindings
-mod Comings
-mod Outcomes
+pub mod Considered
+pub mod Meanings
 pub mod Selections

@@ -1,6 +1,5 @@
 pub mod Answering
 pub mod Binding
-pub mod Lines
 pub mod Plain
 pub mod Result
 pub mod Selection

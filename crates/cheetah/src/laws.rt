@@ -1,12 +1,9 @@
 //! What holds of all words and files, as a contract of a function that does nothing.
-ghost use Rattle.std.specs.Prelude.{◌≡◌};
-ghost use Rattle.ch_command.specs.Outcome.{Outcome};
-ghost use Rattle.ch_outside.specs.Shelf.{Files};
-ghost use Rattle.cheetah.specs.Result.{ComesTo};
-ghost use Rattle.cheetah.specs.Words.{Wish};
+ghost use Rattle.std.specs.Prelude.{ℕ, List};
+ghost use Rattle.ch_command.specs.Command.{IsCommand};
+ghost use Rattle.cheetah.specs.Result.{command_of};
 
-/// Whatever the words ask for and whatever the files hold, the command comes to one thing.
-pub fn outcomes_are_one()
-    ensures some { (asked : Wish) (files : Files) → (outcome : Outcome) × ComesTo asked files outcome }
-    ensures one { (asked : Wish) (files : Files) (a b : Outcome) → ComesTo asked files a → ComesTo asked files b → a ≡ b }
+/// Whatever the words are and whatever the files hold, the command comes to one thing.
+pub fn words_are_commands()
+    ensures { (words : List (List ℕ)) → IsCommand (command_of words) }
 {}

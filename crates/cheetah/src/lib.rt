@@ -4,7 +4,6 @@
 mod binding;
 mod evaluation;
 mod laws;
-mod lines;
 mod plain;
 mod selection;
 mod table_row;
@@ -12,7 +11,7 @@ mod top;
 mod verdict;
 mod words;
 
-pub use laws::outcomes_are_one;
+pub use laws::words_are_commands;
 pub use top::cheetah;
 
 #[cfg(test)]

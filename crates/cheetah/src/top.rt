@@ -1,6 +1,6 @@
-ghost use Rattle.std.specs.Prelude.{◌≡◌, map, string_bytes};
+ghost use Rattle.std.specs.Prelude.{◌≡◌, ◌≤◌, map, string_bytes};
 ghost use Rattle.ch_outside.specs.Faults.{StaysReliable};
-ghost use Rattle.ch_command.specs.Call.{Promise};
+ghost use Rattle.ch_command.specs.Call.{Promise, change_of, faults_of};
 ghost use Rattle.cheetah.specs.Result.{command_of};
 
 use crate::verdict::consider;
@@ -19,14 +19,17 @@ pub fn cheetah<F: Shelf, O: Sink, E: Sink>(
 ) -> u8
     ensures promise { Promise (command_of (map string_bytes words.now)) (record {
       told = F.told shelf.old;
-      shelf = record { before = F.faults shelf.old; now = F.faults shelf.new };
-      out = record { old = O.written out.old; new = O.written out.new; faults = record { before = O.faults out.old; now = O.faults out.new } };
-      err = record { old = E.written err.old; new = E.written err.new; faults = record { before = E.faults err.old; now = E.faults err.new } };
+      shelf = faults_of F.faults shelf.old shelf.new;
+      out = change_of O.written O.faults out.old out.new;
+      err = change_of E.written E.faults err.old err.new;
       status = result;
     }) }
 
-    // The shelf still tells the same, and whoever promised that no call fails still does.
+    // The shelf still tells the same, no count of faults falls, and whoever promised that no call fails still does.
     ensures same { F.told shelf.new ≡ F.told shelf.old }
+    ensures shelf_later { F.faults shelf.old ≤ F.faults shelf.new }
+    ensures out_later { O.faults out.old ≤ O.faults out.new }
+    ensures err_later { E.faults err.old ≤ E.faults err.new }
     ensures shelf_steady { StaysReliable (F.reliable shelf.old) (F.reliable shelf.new) (F.faults shelf.old) (F.faults shelf.new) }
     ensures out_steady { StaysReliable (O.reliable out.old) (O.reliable out.new) (O.faults out.old) (O.faults out.new) }
     ensures err_steady { StaysReliable (E.reliable err.old) (E.reliable err.new) (E.faults err.old) (E.faults err.new) }

@@ -1,16 +1,19 @@
-ghost use Rattle.std.specs.Prelude.{◌≡◌, map, string_bytes, option_map, bytes_eq, codes, if◌then◌else◌};
-ghost use Rattle.cheetah.specs.Words.{WrongWords, query_wish, table_of_word, wish, wish_of};
+ghost use Rattle.std.specs.Prelude.{◌≡◌, map, string_bytes, option_map, bytes_eq, codes, if◌then◌else◌, Err};
+ghost use Rattle.cheetah.specs.Words.{Asks, query_wish, table_of_word, wish_of, wrong_words_line};
 
-use ch_cells::Listed;
+use ch_cells::{Bytes, Listed};
+use ch_command::Misuse;
+use std::alloc::Global;
 
 /// What the words of the command ask for.
 #[derive(Clone, Copy, Debug, PartialEq, Eq)]
-pub enum Asked<'a> {
-    NoWords,
-    WrongWords,
-    BadTable,
-    /// The query's text, and the table's name and file.
-    Query(&'a str, &'a str, &'a str),
+pub struct Asked<'a> {
+    /// The query's text.
+    pub text: &'a str,
+    /// The table's name.
+    pub name: &'a str,
+    /// The table's file.
+    pub file: &'a str,
 }
 
 /// The name and the file of a table word, which is cut at its first `=`. Neither is empty.
@@ -29,26 +32,43 @@ fn table_in(word: &str) -> Option<(&str, &str)>
     }
 }
 
-/// What four words ask for.
-fn asked_by<'a>(option: &str, text: &'a str, table: &'a str) -> Asked<'a>
-    ensures { wish result ≡ (if bytes_eq option.now (codes "--query") then query_wish text.entry.now (table_of_word table.entry.now) else WrongWords) }
+/// What three words behind the program's name ask for.
+fn asked_by<'a>(
+    alloc: Global,
+    option: &str,
+    text: &'a str,
+    table: &'a str,
+) -> Result<Asked<'a>, Misuse>
+    ensures { Asks (if bytes_eq option.now (codes "--query") then query_wish text.entry.now (table_of_word table.entry.now) else Err wrong_words_line) result }
 {
     if option != "--query" {
-        return Asked::WrongWords;
+        return Err(refuse(alloc, b"usage: cheetah --query TEXT NAME=FILE\n"));
     }
     match table_in(table) {
-        Some((name, file)) => Asked::Query(text, name, file),
-        None => Asked::BadTable,
+        Some((name, file)) => Ok(Asked { text, name, file }),
+        None => Err(refuse(alloc, b"usage: table word 0\n")),
+    }
+}
+
+/// Words that are refused with this line.
+fn refuse(alloc: Global, line: &[u8]) -> Misuse
+    ensures { Asks (Err line.now) (Err result) }
+{
+    match Bytes::from_slice(alloc, line) {
+        Ok(line) => Misuse::Line(line),
+        Err(_) => Misuse::Memory,
     }
 }
 
 /// What the words ask for. The program's name is the first of them.
-pub fn asked_in(words: &Listed<String>) -> Asked<'_>
-    ensures { wish result ≡ wish_of (map string_bytes words.now) }
+pub fn asked_in(alloc: Global, words: &Listed<String>) -> Result<Asked<'_>, Misuse>
+    ensures { Asks (wish_of (map string_bytes words.now)) result }
 {
     match words.as_slice() {
-        [] => Asked::NoWords,
-        [_, option, text, table] => asked_by(option.as_str(), text.as_str(), table.as_str()),
-        _ => Asked::WrongWords,
+        [] => Err(refuse(alloc, b"usage: no words\n")),
+        [_, option, text, table] => {
+            asked_by(alloc, option.as_str(), text.as_str(), table.as_str())
+        }
+        _ => Err(refuse(alloc, b"usage: cheetah --query TEXT NAME=FILE\n")),
     }
 }

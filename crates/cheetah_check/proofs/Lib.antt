@@ -1,5 +1,5 @@
-mod Misspellings
-mod Outcomes
-mod Short
-mod Stops
-mod Usages
+pub mod Considered
+pub mod Meanings
+pub mod Misspellings
+pub mod Short
+pub mod Usages

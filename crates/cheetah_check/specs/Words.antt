@@ -1,11 +1,10 @@
 -- What the words of the command ask for.
-use Rattle.std.specs.Prelude.{◌≡◌, ◌≢◌, ℕ, Bool, true, false, List, [], ◌∷◌, Option, Some, option_map, unwrap_or, codes, Result, Ok, Err}
+use Rattle.std.specs.Prelude.{◌≡◌, ◌≢◌, ℕ, true, List, [], ◌∷◌, Option, Some, option_map, unwrap_or, codes, Result, Ok, Err}
 use Rattle.clap.specs.Words.{App, Kinds, Row, Rule, fault_of, first_of, found_of, matches_of, new_app, new_rule, rows_of, with_rule}
 use Rattle.clap.specs.declared.parser.ArgMatches.{ArgMatches}
 use Rattle.ch_command.specs.Lines.{no_words_line}
-use Rattle.ch_command.specs.declared.status.Refusal.TheVariants as refusal
-use Rattle.ch_command.specs.declared.stop.Stop.{Stop}
-use Rattle.ch_command.specs.declared.stop.Stop.TheVariants as stop
+use Rattle.ch_command.specs.declared.verdict.Misuse.{Misuse}
+use Rattle.ch_command.specs.declared.verdict.Misuse.TheVariants as misuse
 use Rattle.cheetah_check.specs.declared.words.Asked.{Asked}
 
 -- `cheetah_check FILE [--profile FILE]`
@@ -20,8 +19,8 @@ unfoldable pub check_app : App
 check_app = with_rule (with_rule (new_app (codes "cheetah_check")) profile_rule) program_rule
 
 -- why the words are not taken; nothing where they are
-unfoldable pub faults_of : List (List ℕ) → Kinds
-faults_of words = fault_of check_app words
+unfoldable pub kinds_of : List (List ℕ) → Kinds
+kinds_of words = fault_of check_app words
 
 -- what the words give to each argument
 unfoldable pub given_by : List (List ℕ) → List Row
@@ -44,16 +43,14 @@ wish_by (kind ∷ kinds) rows = WrongWords
 
 abbrev pub wish_of : List (List ℕ) → Wish
 wish_of [] = NoWords
-wish_of (program ∷ words) = wish_by (faults_of (program ∷ words)) (given_by (program ∷ words))
-
-abbrev pub is_misuse : Wish → Bool
-is_misuse NoWords = true
-is_misuse WrongWords = true
-is_misuse (Check profile program) = false
+wish_of (program ∷ words) = wish_by (kinds_of (program ∷ words)) (given_by (program ∷ words))
 
 -- the words' wish, as the code has it
+abbrev pub profile_name : Asked → Option (List ℕ)
+profile_name asked = option_map (λ file. file.now) asked.profile
+
 abbrev pub wish : Asked → Wish
-wish asked = Check (option_map (λ file. file.now) asked.profile) asked.program.now
+wish asked = Check (profile_name asked) asked.program.now
 
 -- the line that refuses words: that of no words, or any
 abbrev pub RefusesWords : Wish → List ℕ → Type 0
@@ -62,26 +59,13 @@ RefusesWords WrongWords line = Unit {0}
 RefusesWords (Check profile program) line = ⊥
 
 -- words that clap reads, or the text with which it refuses them
-abbrev pub Parses : List (List ℕ) → Result ArgMatches Stop → Type 0
-Parses words (Ok m) = (faults_of words ≡ []) × (rows_of (found_of m) ≡ given_by words)
-Parses words (Err (stop.Refused refusal.Usage line)) = faults_of words ≢ []
-Parses words (Err (stop.Refused refusal.Input line)) = ⊥
-Parses words (Err (stop.Refused refusal.Rejected line)) = ⊥
-Parses words (Err (stop.Refused refusal.ReadFault line)) = ⊥
-Parses words (Err stop.Memory) = Unit {0}
-
-abbrev pub IsUsage : Stop → Type 0
-IsUsage (stop.Refused refusal.Usage line) = Unit {0}
-IsUsage (stop.Refused refusal.Input line) = ⊥
-IsUsage (stop.Refused refusal.Rejected line) = ⊥
-IsUsage (stop.Refused refusal.ReadFault line) = ⊥
-IsUsage stop.Memory = Unit {0}
+abbrev pub Parses : List (List ℕ) → Result ArgMatches Misuse → Type 0
+Parses words (Ok m) = (kinds_of words ≡ []) × (rows_of (found_of m) ≡ given_by words)
+Parses words (Err (misuse.Line line)) = kinds_of words ≢ []
+Parses words (Err misuse.Memory) = Unit {0}
 
 -- what is asked, or why the words are refused
-abbrev pub Asks : Wish → Result Asked Stop → Type 0
+abbrev pub Asks : Wish → Result Asked Misuse → Type 0
 Asks wanted (Ok asked) = wanted ≡ wish asked
-Asks wanted (Err (stop.Refused refusal.Usage line)) = RefusesWords wanted line
-Asks wanted (Err (stop.Refused refusal.Input line)) = ⊥
-Asks wanted (Err (stop.Refused refusal.Rejected line)) = ⊥
-Asks wanted (Err (stop.Refused refusal.ReadFault line)) = ⊥
-Asks wanted (Err stop.Memory) = Unit {0}
+Asks wanted (Err (misuse.Line line)) = RefusesWords wanted line
+Asks wanted (Err misuse.Memory) = Unit {0}

@@ -1,12 +1,10 @@
 //! What holds of all words and files, as a contract of a function that does nothing.
-ghost use Rattle.ch_command.specs.Outcome.{Outcome};
-ghost use Rattle.ch_outside.specs.Shelf.{Files};
-ghost use Rattle.cheetah_check.specs.Result.{Agree, ComesTo};
-ghost use Rattle.cheetah_check.specs.Words.{Wish};
+ghost use Rattle.std.specs.Prelude.{ℕ, List};
+ghost use Rattle.ch_command.specs.Command.{IsCommand};
+ghost use Rattle.cheetah_check.specs.Result.{command_of};
 
-/// Whatever the words ask for and whatever the files hold, the command comes to one thing; only the text that refuses words
+/// Whatever the words are and whatever the files hold, the command comes to one thing; only the text that refuses words
 /// isn't fixed.
-pub fn outcomes_are_one()
-    ensures some { (asked : Wish) (files : Files) → (outcome : Outcome) × ComesTo asked files outcome }
-    ensures one { (asked : Wish) (files : Files) (a b : Outcome) → ComesTo asked files a → ComesTo asked files b → Agree asked a b }
+pub fn words_are_commands()
+    ensures { (words : List (List ℕ)) → IsCommand (command_of words) }
 {}

@@ -2,12 +2,11 @@
 #![tactic(auto)]
 
 mod laws;
-mod lines;
 mod top;
 mod verdict;
 mod words;
 
-pub use laws::outcomes_are_one;
+pub use laws::words_are_commands;
 pub use top::cheetah_check;
 
 #[cfg(test)]

@@ -1,9 +1,9 @@
-ghost use Rattle.std.specs.Prelude.{◌≡◌, IfOk, codes, false, map, option_map, string_bytes};
+ghost use Rattle.std.specs.Prelude.{◌≡◌, ◌≢◌, ◌⊎◌, [], IfOk, codes, false, map, option_map, string_bytes};
 ghost use Rattle.clap.specs.Words.{app_of, first_of, found_of, rows_of, rule_of};
-ghost use Rattle.cheetah_check.specs.Words.{Asks, IsUsage, Parses, check_app, profile_rule, program_rule, wish_of};
+ghost use Rattle.cheetah_check.specs.Words.{Asks, Parses, check_app, profile_rule, program_rule, wish_of};
 
-use ch_cells::{Bytes, Listed};
-use ch_command::{Refusal, Stop};
+use ch_cells::Bytes;
+use ch_command::Misuse;
 use clap::error::ErrorKind;
 use clap::{Arg, ArgMatches, Command, Error};
 use std::alloc::{AllocError, Global};
@@ -38,28 +38,26 @@ fn command<'a>(alloc: Global) -> Result<Command<'a>, AllocError>
     Ok(with_program)
 }
 
-/// The refusal with the text that the error renders.
-fn usage(alloc: Global, error: &Error) -> Stop
-    ensures { IsUsage result }
-{
+/// The text that the error renders.
+fn usage(alloc: Global, error: &Error) -> Misuse {
     match format!(in alloc; "{error}") {
-        Ok(text) => Stop::Refused(Refusal::Usage, Bytes::from_vec(text.into_bytes())),
-        Err(_) => Stop::Memory,
+        Ok(text) => Misuse::Line(Bytes::from_vec(text.into_bytes())),
+        Err(_) => Misuse::Memory,
     }
 }
 
 /// Reads the words as the command's.
-fn parse_words<'a>(alloc: Global, words: &'a [String]) -> Result<ArgMatches<'a>, Stop>
+fn parse_words<'a>(alloc: Global, words: &'a [String]) -> Result<ArgMatches<'a>, Misuse>
     ensures { Parses (map string_bytes words.entry.now) result }
 {
     let command = match command(alloc) {
         Ok(command) => command,
-        Err(_) => return Err(Stop::Memory),
+        Err(_) => return Err(Misuse::Memory),
     };
     match command.try_get_matches_from(words) {
         Ok(matches) => Ok(matches),
         Err(error) => match error.kind() {
-            ErrorKind::OutOfMemory => Err(Stop::Memory),
+            ErrorKind::OutOfMemory => Err(Misuse::Memory),
             _ => Err(usage(alloc, &error)),
         },
     }
@@ -78,11 +76,11 @@ fn program_in<'a>(matches: &ArgMatches<'a>) -> Option<&'a str>
 }
 
 /// What the words ask for. The program's name is the first of them.
-pub fn asked_in<'a>(alloc: Global, words: &'a [String]) -> Result<Asked<'a>, Stop>
+pub fn asked_in<'a>(alloc: Global, words: &'a [String]) -> Result<Asked<'a>, Misuse>
     ensures { Asks (wish_of (map string_bytes words.entry.now)) result }
 {
     if words.is_empty() {
-        return Err(Stop::refused(alloc, Refusal::Usage, b"usage: no words\n"));
+        return Err(Misuse::Line(Bytes::from_slice(alloc, b"usage: no words\n")?));
     }
     let matches = parse_words(alloc, words)?;
     Ok(Asked {

@@ -9,5 +9,5 @@ judge-requires-clause-stages c = omega (arith, (stages_within c.in-Ok.program).0
 pub judge-requires-clause-ops : goal.judge-requires-clause-ops
 judge-requires-clause-ops c = omega (arith, (stages_within c.in-Ok.program).1, ap length c.in-Ok.ensures.read.1, c.requires)
 
-pub returns-in_ok-program_line-in-Err-Line : goal.returns-in_ok-program_line-in-Err-Line
-returns-in_ok-program_line-in-Err-Line c = misspelled _ _ _ _ _ c.requires c.in-Err-Line.field-0-is c.in-Err-Line.ensures.refused c.in_ok-program_line-in-Err-Line.ensures
+pub returns-in_ok-line-in-Err-Line : goal.returns-in_ok-line-in-Err-Line
+returns-in_ok-line-in-Err-Line c = rw c.refused.ensures (misspelled c.args.profile.now _ _ _ _ c.requires c.in-Err-Line.field-0-is c.in-Err-Line.ensures.refused c.in_ok-line-in-Err-Line.ensures)

@@ -1,7 +1,7 @@
 use Rattle.std.proofs.Common.{◌≡◌, ◌∙◌, ap, ap₂, refl, sym, true, inl, inr}
 use Rattle.clap.specs.Words.{fault_of, matches_of, is_simple, is_simple_and_free}
 use Rattle.clap.proofs.OnLiterals.{clap_on_literals}
-use Rattle.cheetah_check.specs.Words.{check_app, faults_of, given_by}
+use Rattle.cheetah_check.specs.Words.{check_app, kinds_of, given_by}
 use Rattle.cheetah_check.proofs.Usages.{not_parsed}
 use Rattle.cheetah_check.proofs.words.parse_words.Goals as goal
 
@@ -14,18 +14,18 @@ unfolding clap_on_literals check_app
 simple = refl
 
 pub returns-in-Ok-try_get_matches_from : goal.returns-in-Ok-try_get_matches_from
-unfolding faults_of given_by
+unfolding kinds_of given_by
 returns-in-Ok-try_get_matches_from c =
     let e = c.in-Ok.ensures in
     let s = c.in-Ok-try_get_matches_from.ensures in
     (ap₂ fault_of (sym e) refl ∙ s.kinds (ap is_simple_and_free e ∙ plain), (s.matches (ap is_simple e ∙ simple)).0 ∙ ap₂ matches_of e refl)
 
 pub returns : goal.returns
-unfolding faults_of
+unfolding kinds_of
 returns c =
     let e = c.in-Ok.ensures in
     let s = c.in-Err-try_get_matches_from.ensures in
-    not_parsed _ c.usage.result c.usage.ensures (λ none. elim (s.kinds (ap is_simple_and_free e ∙ plain)) [
+    not_parsed _ c.usage.result (λ none. elim (s.kinds (ap is_simple_and_free e ∙ plain)) [
       | inl memory ↦ c.in_default.not-OutOfMemory (c.kind.ensures ∙ memory)
       | inr among ↦ rw (ap₂ fault_of e refl ∙ none) at among
     ])
