@@ -5,9 +5,10 @@ use Rattle.ch_ranks.proofs.Sorts.{ascends_from, sorted_texts, among-map}
 use Rattle.ch_ranks.proofs.ranks.sorted.Goals as goal
 
 pub invariant_of-result : goal.invariant_of-result
-invariant_of-result c =
-    (ascends_from (λ (v : Vec ℕ Global). v.items) c.sort.new.self.keys c.in_ok-sort.ensures.sorted c.sort.ensures.unique,
-    omega (arith, c.sort.ensures.reordered.1, c.requires))
+invariant_of-result c = (
+  ascends_from (λ (v : Vec ℕ Global). v.items) c.sort.new.self.keys c.in_ok-sort.ensures.sorted c.sort.ensures.unique,
+  omega (arith, c.sort.ensures.reordered.1, c.requires),
+)
 
 pub returns-clause-sorted : goal.returns-clause-sorted
 returns-clause-sorted c = sorted_texts (λ (v : Vec ℕ Global). v.items) c.args.texts.keys c.sort.new.self.keys c.sort.ensures.reordered.0 c.in_ok-sort.ensures.sorted
