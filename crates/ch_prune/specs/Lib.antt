@@ -1,0 +1,5 @@
+pub mod Needs
+pub mod Sent
+pub mod Fronts
+pub mod Filtering
+pub mod FilterLaws
