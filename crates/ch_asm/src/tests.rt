@@ -111,135 +111,105 @@ fn an_access_is_written(rt: HostRuntime) -> Result<(), Fail> {
     Ok(())
 }
 
+/// Lines of a stage that are read.
+const READ: &[&str] = &[
+    "op 3 set w1\nop 4 set #-7",
+    "op 3 add w0 w1\nop 4 sub w0 #0\nop 5 lt #1 w1",
+    "op 3 le w0 w1\nop 4 eq w0 w1\nop 5 ne w0 w1",
+    "op 3 and w0 w1\nop 4 or w0 w1\nop 5 mask w0 w1",
+    "op 3 bit w1\nop 4 pick w1 #1 w2",
+    "op 3 hash 0 8 -\nop 4 hash 7 1 w2\nop 5 hash 1 2 w2,w3,w10",
+    "access 0 #0 #1 always - - - 0 0",
+    "access 1 w3 w4 keyeq:2 w1,#-1 keep keep,keep 5 6\nstage",
+    "access 1 w3 w4 keyorfree:0 w1 put:w1,addsat:#5 min:w2 5 6",
+    "access 1 w3 w4 less:3 w1 max:#-1,or:w2 or:#1,max:w1 5 6",
+    "op 3 set w1\naccess 0 w3 #1 always - - - 4 5\naccess 0 w3 #1 always - - - 4 5",
+    // Ends of the ranges.
+    "op 4294967295 set #-9223372036854775808",
+    "op 3 set #9223372036854775807",
+    "op 3 hash 18446744073709551615 4294967295 w4294967295",
+];
+
+/// Lines that no text has at this place.
+const REFUSED: &[&str] = &[
+    // Behind the ends of the ranges.
+    "op 4294967296 set w1",
+    "op 3 set w4294967296",
+    "op 3 set #9223372036854775808",
+    "op 3 set #-9223372036854775809",
+    "op 3 hash 18446744073709551616 1 -",
+    "op 3 hash 0 4294967296 -",
+    // Other spellings of numbers.
+    "op +3 set w1",
+    "op 03 set w1",
+    "op 3 set w01",
+    "op 3 set w-1",
+    "op 3 set #+1",
+    "op 3 set #-0",
+    "op 3 set #-01",
+    "op 3 set #",
+    "op 3 set #-",
+    // Other spellings of lines.
+    "op  3 set w1",
+    "op 3 set w1 ",
+    " op 3 set w1",
+    "op 3 set w1\r",
+    "op 3 set 1",
+    "op 3 neg w1",
+    "op 3 add w1",
+    "op 3 hash 0 1 ",
+    "op 3 hash 0 1 w1,",
+    // Other spellings of accesses.
+    "access 0 #0 #1 always  - - 0 0",
+    "access 0 #0 #1 always:1 - - - 0 0",
+    "access 0 #0 #1 keyeq - - - 0 0",
+    "access 0 #0 #1 always - keep:w1 - 0 0",
+    "access 0 #0 #1 always - put - 0 0",
+    "access 0 #0 #1 always - - - 0",
+    "access 0 #0 #1 always - - - 0 0 0",
+    // Lines of another place.
+    "array 1 1",
+    "width 3",
+    "cheetah program 1",
+    "end",
+];
+
+/// Texts, and the first line at which they begin no program's.
+const TEXTS: &[(&str, u32)] = &[
+    ("", 1),
+    ("\n", 1),
+    ("width 3\n", 1),
+    ("cheetah program 2\n", 1),
+    ("cheetah program 1\nstage\n", 2),
+    ("cheetah program 1\nwidth 3\nop 3 set w1\n", 3),
+    (
+        "cheetah program 1\nwidth 3\nstage\naccess 0 #0 #1 always - - - 3 4\nop 5 set w1\nverdict 3\nend\n",
+        5,
+    ),
+];
+
 #[test]
-fn each_op_is_read(rt: HostRuntime) -> Result<(), Fail> {
-    let alloc = rt.alloc();
-    reads_line(&rt, alloc, b"op 3 set w1\nop 4 set #-7")?;
-    reads_line(&rt, alloc, b"op 3 add w0 w1\nop 4 sub w0 #0\nop 5 lt #1 w1")?;
-    reads_line(&rt, alloc, b"op 3 le w0 w1\nop 4 eq w0 w1\nop 5 ne w0 w1")?;
-    reads_line(
-        &rt,
-        alloc,
-        b"op 3 and w0 w1\nop 4 or w0 w1\nop 5 mask w0 w1",
-    )?;
-    reads_line(&rt, alloc, b"op 3 bit w1\nop 4 pick w1 #1 w2")?;
-    reads_line(
-        &rt,
-        alloc,
-        b"op 3 hash 0 8 -\nop 4 hash 7 1 w2\nop 5 hash 1 2 w2,w3,w10",
-    )
+fn each_line_is_read(rt: HostRuntime) -> Result<(), Fail> {
+    for line in READ {
+        reads_line(&rt, rt.alloc(), line.as_bytes())?;
+    }
+    reads(&rt, rt.alloc(), b"cheetah program 1\nwidth 0\nverdict 0\nend\n")
 }
 
 #[test]
-fn each_access_is_read(rt: HostRuntime) -> Result<(), Fail> {
-    let alloc = rt.alloc();
-    reads_line(&rt, alloc, b"access 0 #0 #1 always - - - 0 0")?;
-    reads_line(
-        &rt,
-        alloc,
-        b"access 1 w3 w4 keyeq:2 w1,#-1 keep keep,keep 5 6\nstage",
-    )?;
-    reads_line(
-        &rt,
-        alloc,
-        b"access 1 w3 w4 keyorfree:0 w1 put:w1,addsat:#5 min:w2 5 6",
-    )?;
-    reads_line(
-        &rt,
-        alloc,
-        b"access 1 w3 w4 less:3 w1 max:#-1,or:w2 or:#1,max:w1 5 6",
-    )?;
-    reads_line(
-        &rt,
-        alloc,
-        b"op 3 set w1\naccess 0 w3 #1 always - - - 4 5\naccess 0 w3 #1 always - - - 4 5",
-    )
-}
-
-#[test]
-fn ends_of_the_ranges(rt: HostRuntime) -> Result<(), Fail> {
-    let alloc = rt.alloc();
-    reads_line(&rt, alloc, b"op 4294967295 set #-9223372036854775808")?;
-    reads_line(&rt, alloc, b"op 3 set #9223372036854775807")?;
-    reads_line(
-        &rt,
-        alloc,
-        b"op 3 hash 18446744073709551615 4294967295 w4294967295",
-    )?;
-    refuses_line(&rt, alloc, b"op 4294967296 set w1")?;
-    refuses_line(&rt, alloc, b"op 3 set w4294967296")?;
-    refuses_line(&rt, alloc, b"op 3 set #9223372036854775808")?;
-    refuses_line(&rt, alloc, b"op 3 set #-9223372036854775809")?;
-    refuses_line(&rt, alloc, b"op 3 hash 18446744073709551616 1 -")?;
-    refuses_line(&rt, alloc, b"op 3 hash 0 4294967296 -")
-}
-
-#[test]
-fn other_spellings_of_numbers(rt: HostRuntime) -> Result<(), Fail> {
-    let alloc = rt.alloc();
-    refuses_line(&rt, alloc, b"op +3 set w1")?;
-    refuses_line(&rt, alloc, b"op 03 set w1")?;
-    refuses_line(&rt, alloc, b"op 3 set w01")?;
-    refuses_line(&rt, alloc, b"op 3 set w-1")?;
-    refuses_line(&rt, alloc, b"op 3 set #+1")?;
-    refuses_line(&rt, alloc, b"op 3 set #-0")?;
-    refuses_line(&rt, alloc, b"op 3 set #-01")?;
-    refuses_line(&rt, alloc, b"op 3 set #")?;
-    refuses_line(&rt, alloc, b"op 3 set #-")
-}
-
-#[test]
-fn other_spellings_of_lines(rt: HostRuntime) -> Result<(), Fail> {
-    let alloc = rt.alloc();
-    refuses_line(&rt, alloc, b"op  3 set w1")?;
-    refuses_line(&rt, alloc, b"op 3 set w1 ")?;
-    refuses_line(&rt, alloc, b" op 3 set w1")?;
-    refuses_line(&rt, alloc, b"op 3 set w1\r")?;
-    refuses_line(&rt, alloc, b"op 3 set 1")?;
-    refuses_line(&rt, alloc, b"op 3 neg w1")?;
-    refuses_line(&rt, alloc, b"op 3 add w1")?;
-    refuses_line(&rt, alloc, b"op 3 hash 0 1 ")?;
-    refuses_line(&rt, alloc, b"op 3 hash 0 1 w1,")
-}
-
-#[test]
-fn other_spellings_of_accesses(rt: HostRuntime) -> Result<(), Fail> {
-    let alloc = rt.alloc();
-    refuses_line(&rt, alloc, b"access 0 #0 #1 always  - - 0 0")?;
-    refuses_line(&rt, alloc, b"access 0 #0 #1 always:1 - - - 0 0")?;
-    refuses_line(&rt, alloc, b"access 0 #0 #1 keyeq - - - 0 0")?;
-    refuses_line(&rt, alloc, b"access 0 #0 #1 always - keep:w1 - 0 0")?;
-    refuses_line(&rt, alloc, b"access 0 #0 #1 always - put - 0 0")?;
-    refuses_line(&rt, alloc, b"access 0 #0 #1 always - - - 0")?;
-    refuses_line(&rt, alloc, b"access 0 #0 #1 always - - - 0 0 0")
-}
-
-#[test]
-fn order_of_lines(rt: HostRuntime) -> Result<(), Fail> {
-    let alloc = rt.alloc();
-    refuses_line(&rt, alloc, b"array 1 1")?;
-    refuses_line(&rt, alloc, b"width 3")?;
-    refuses_line(&rt, alloc, b"cheetah program 1")?;
-    refuses_line(&rt, alloc, b"end")?;
-    refuses(&rt, alloc, b"width 3\n", 1);
-    refuses(&rt, alloc, b"cheetah program 2\n", 1);
-    refuses(&rt, alloc, b"cheetah program 1\nstage\n", 2);
-    refuses(&rt, alloc, b"cheetah program 1\nwidth 3\nop 3 set w1\n", 3);
-    reads(&rt, alloc, b"cheetah program 1\nwidth 0\nverdict 0\nend\n")
-}
-
-#[test]
-fn no_op_behind_an_access(rt: HostRuntime) {
-    let text =
-        b"cheetah program 1\nwidth 3\nstage\naccess 0 #0 #1 always - - - 3 4\nop 5 set w1\nverdict 3\nend\n";
-    refuses(&rt, rt.alloc(), text, 5);
+fn other_lines_are_refused(rt: HostRuntime) -> Result<(), Fail> {
+    for line in REFUSED {
+        refuses_line(&rt, rt.alloc(), line.as_bytes())?;
+    }
+    for (text, line) in TEXTS {
+        refuses(&rt, rt.alloc(), text.as_bytes(), *line);
+    }
+    Ok(())
 }
 
 #[test]
 fn ends_of_texts(rt: HostRuntime) -> Result<(), Fail> {
     let alloc = rt.alloc();
-    refuses(&rt, alloc, b"", 1);
-    refuses(&rt, alloc, b"\n", 1);
     let mut text = Vec::from_slice(alloc, CHECKER)?;
     text.push(b'\n')?;
     refuses(&rt, alloc, text.as_slice(), 7);
