@@ -1,2 +1,3 @@
+pub mod Dictionaries
 pub mod Placed
 pub mod Sided

@@ -1,6 +1,7 @@
 //! Rows of a table as words: what a worker puts into a packet.
 #![tactic(auto)]
 
+mod dictionary;
 mod side_row;
 
 ghost use Rattle.std.specs.Prelude.{◌≡◌, ◌<◌, ◌++◌, [], All, bytes_eq, length, map, pos, slice_index_or, true, IfOk, OnOk, OnErr};
@@ -13,7 +14,12 @@ ghost use Rattle.ch_table_words.specs.RowWords.{ranks_of, row_words};
 use ch_cells::{CellRef, Listed, Memory};
 use ch_ranks::Ranks;
 use ch_tables::Table;
+pub use dictionary::{add_texts, dictionaries_have_their_texts};
 pub use side_row::{SideRow, row_bit};
+
+#[cfg(test)]
+mod tests;
+
 use std::alloc::Global;
 
 /// The rank of each different text of a table, by its place: one look-up for each text, and none for a row.
