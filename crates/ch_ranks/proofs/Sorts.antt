@@ -1,5 +1,5 @@
 -- What sorting different texts gives.
-use Rattle.std.proofs.Common.{◌≡◌, ℕ, ◌+◌, ◌<◌, Bool, true, false, ◌||◌, List, [], ◌∷◌, ◌++◌, map, length, Option, Some, None, slice_get, get_or, zero, suc, ◌≤◌, refl, sym, ◌∙◌, ap, subst, inl, inr, arith, rules, position}
+use Rattle.std.proofs.Common.{◌≡◌, ℕ, ◌+◌, ◌<◌, true, false, ◌||◌, List, [], ◌∷◌, ◌++◌, map, length, Some, slice_get, get_or, zero, suc, ◌≤◌, refl, sym, ◌∙◌, ap, subst, arith, rules, position}
 use Rattle.std.specs.Prelude.{IsPermutation, IsSorted, bytes_eq, option_map, if◌then◌else◌}
 use Rattle.std.specs.List.{list_any, IsDistinct}
 use Rattle.std.specs.declared.cmp.Ordering.{Ordering}

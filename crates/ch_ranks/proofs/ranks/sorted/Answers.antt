@@ -1,4 +1,4 @@
-use Rattle.std.proofs.Common.{◌≡◌, ◌<◌, ◌∙◌, ℕ, List, map, length, Vec, Global, arith, sym}
+use Rattle.std.proofs.Common.{◌∙◌, ℕ, Vec, Global, arith, sym}
 use Rattle.std.specs.Prelude.{bytes_eq}
 use Rattle.ch_lists.proofs.Bags.{any_same, SameBag-permutation}
 use Rattle.ch_ranks.proofs.Sorts.{ascends_from, sorted_texts, among-map}

@@ -1,4 +1,4 @@
-use Rattle.std.proofs.Common.{◌≡◌, ℕ, List, map, Vec, Global, false, Some, slice_get, ◌∙◌, sym}
+use Rattle.std.proofs.Common.{◌≡◌, ℕ, Vec, Global, false, Some, slice_get, ◌∙◌, sym}
 use Rattle.std.specs.Prelude.{bytes_eq}
 use Rattle.std.specs.List.{list_any}
 use Rattle.ch_ranks.specs.Dictionary.{Ascends}
