@@ -1,0 +1,5 @@
+pub mod Passing
+pub mod Holding
+pub mod KindLaws
+pub mod WorkedNeeds
+pub mod Ranged

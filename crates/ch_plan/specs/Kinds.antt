@@ -1,0 +1,65 @@
+-- The operators of plans, by cases on the kind: policy, program, needs, and what a plan of a query is.
+use Rattle.std.specs.Prelude.{◌≡◌, ℕ, Bool, List, None}
+use Rattle.ch_cover.specs.Rows.{Policy, Row}
+use Rattle.ch_cover.specs.Cover.{CoversOnce, CoversTwice}
+use Rattle.ch_ir.specs.declared.program.Program.{Program}
+use Rattle.ch_ir.specs.declared.profile.Profile.{Profile}
+use Rattle.ch_ir.specs.Machine.{cleared}
+use Rattle.ch_pred.specs.declared.bound.Bound.{Bound}
+use Rattle.ch_pred.specs.declared.bound.Shape.{Shape}
+use Rattle.ch_pred.specs.declared.bound.Shape.TheVariants as shape
+use Rattle.ch_verdicts.specs.Agrees.{Agrees}
+use Rattle.ch_words.specs.Policies.{by_bit}
+use Rattle.ch_words.specs.Rows.{Gate, GateFits, answer_over}
+use Rattle.ch_words.specs.Words.{Reading, asked_of_words}
+use Rattle.ch_prune.specs.declared.operator.Need.{Need}
+use Rattle.ch_prune.specs.Filtering.{FilterServes, filter_need, filter_program}
+use Rattle.ch_prune.specs.Sent.{is_sent}
+use Rattle.ch_plan.specs.declared.kind.PlanKind.{PlanKind}
+use Rattle.ch_plan.specs.declared.kind.PlanKind.TheVariants as kind
+use Rattle.ch_plan.specs.Needs.{need_of, plan_refusal}
+
+abbrev pub kind_policy : PlanKind → Policy
+kind_policy (kind.Filter o) = by_bit
+
+abbrev pub kind_program : PlanKind → Program
+kind_program (kind.Filter o) = filter_program o.width
+
+abbrev pub kind_needs : PlanKind → Need
+kind_needs (kind.Filter o) = filter_need o.width
+
+-- the number of ops of a stage that it was made with
+abbrev pub kind_most : PlanKind → ℕ
+kind_most (kind.Filter o) = o.ops
+
+-- its number of passes
+abbrev pub kind_times : PlanKind → ℕ
+kind_times (kind.Filter o) = 1
+
+-- the queries that it serves
+abbrev pub kind_serves : PlanKind → Reading → Bound → Gate → Type 0
+kind_serves (kind.Filter o) d b gate = FilterServes d b gate
+
+-- the operator is of the query's own kind
+abbrev pub IsOwnKind : PlanKind → Shape → Type 0
+IsOwnKind (kind.Filter o) s = s ≡ shape.Filter
+
+-- the law of a policy of so many passes
+pub record Covers {A : Type 0} (passes : ℕ) (is_row : Row → Bool) (prunes : Policy) (answer : List Row → A) : Type 0 where
+  pub once : passes ≡ 1 → CoversOnce is_row prunes answer
+  pub twice : passes ≡ 2 → CoversTwice is_row prunes answer
+
+-- what the layers above need of an operator and a query that it serves
+pub record Holds (k : PlanKind) (d : Reading) (b : Bound) (gate : Gate) : Type 0 where
+  pub covers : Covers (kind_times k) (is_sent gate b) (kind_policy k) (answer_over d b)
+  pub agrees : Agrees (is_sent gate b) (kind_program k) None (cleared (kind_program k).arrays) (kind_policy k)
+  pub width : (kind_program k).width ≡ (kind_needs k).width
+
+-- An operator that a query may be planned by: it is of the query's kind, its needs are the query's, within the profile, and
+-- it serves the query wherever the rows' bits fit it
+pub record IsPlanOf (k : PlanKind) (b : Bound) (profile : Profile) : Type 0 where
+  pub own : IsOwnKind k b.shape
+  pub needs : kind_needs k ≡ need_of b profile
+  pub most : kind_most k ≡ profile.ops
+  pub within : plan_refusal (need_of b profile) profile ≡ None
+  pub serves : (d : Reading) (gate : Gate) → GateFits gate (asked_of_words d b) b.shape → kind_serves k d b gate

@@ -1,0 +1,4 @@
+pub mod Needs
+pub mod Ranged
+pub mod Kinds
+pub mod Worked
