@@ -1,6 +1,6 @@
 -- Each query that tokens derive is formed.
 use Rattle.std.proofs.Common.{◌≡◌, ◌≢◌, ◌∙◌, ap, sym, refl, subst, ℕ, ◌+◌, ◌≤◌, Bool, true, false, List, [], ◌∷◌, ◌++◌, length, Option, Some, None, option_map, arith, length-append}
-use Rattle.ch_sql_grammar.specs.declared.tok.Tok.{Tok}
+use Rattle.ch_sql_grammar.specs.declared.terminal.Terminal.{Terminal}
 use Rattle.ch_sql_grammar.specs.Tree.{Plain, Plains, nil, cons, plains, all_of, any_of, Select}
 use Rattle.ch_sql_grammar.specs.Grammar as grammar
 use Rattle.ch_sql_grammar.specs.Grammar.{Pred, conj, or, Conj, neg, and, Neg, not, parens, atom, Form, IsForm, IsQuery, atom_tree, conj_trees, neg_trees, neg_tree, pred_tree, conj_tree, endings_tree, form_tree}
@@ -67,5 +67,5 @@ form_formed (grammar.join front last left right first_on second_on filter) is = 
 form_formed (grammar.semi front last outer key inner_key inner filter) is = record { items = has_last front last; source = (refl, is, refl); filter = and_formed filter }
 form_formed (grammar.one front last table filter ending) is = record { items = has_last front last; source = tail_formed ending; filter = where_formed filter }
 
-pub formed : (tokens : List Tok) (q : Select) → IsQuery tokens q → IsFormed q
+pub formed : (tokens : List Terminal) (q : Select) → IsQuery tokens q → IsFormed q
 formed tokens q is = subst IsFormed (sym is.stands_for) (form_formed is.form is.is_form)

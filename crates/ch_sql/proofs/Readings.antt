@@ -112,13 +112,6 @@ either text = elim (scanned.either text) [
 
 -- what the reader answers
 
-lex_memory : (e : LexError) → e ≡ lex.Memory → lex_refusal e ≡ error.Memory
-lex_memory e h = ap lex_refusal h
-
-pub lex_only : (text : List ℕ) (e : LexError) → ((tokens : List Token) → IsQueryText text → IsLexed text tokens → Lexes tokens (Err e)) →
-    (tree : Select) → Spells text tree → lex_refusal e ≡ error.Memory
-lex_only text e only tree s = lex_memory e (only s.tokens s.short s.lexed)
-
 same_tokens : (text : List ℕ) (tokens : List Token) (tree : Select) → IsLexed text tokens → Spells text tree → IsQueryWithin (seen tokens) tree
 same_tokens text tokens tree lexed s = subst (λ (ts : List Token). IsQueryWithin (seen ts) tree) (scanned.one_list text s.tokens tokens s.lexed lexed) s.derived
 

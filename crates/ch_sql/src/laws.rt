@@ -1,7 +1,7 @@
 //! What holds of all queries, as contracts of functions that do nothing.
 ghost use Rattle.std.specs.Prelude.{ℕ, ◌≡◌, ◌≢◌, ◌≤◌, ◌⊎◌, List, length};
 ghost use Rattle.ch_sql_tokens.specs.declared.scanner.TheConstants.{MAX_QUERY_BYTES};
-ghost use Rattle.ch_sql_grammar.specs.declared.tok.Tok.{Tok};
+ghost use Rattle.ch_sql_grammar.specs.declared.terminal.Terminal.{Terminal};
 ghost use Rattle.ch_sql_grammar.specs.Tree.{Select};
 ghost use Rattle.ch_sql_grammar.specs.Grammar.{IsQuery};
 ghost use Rattle.ch_sql_limits.specs.Texts.{Spells};
@@ -27,8 +27,8 @@ pub fn spelled_queries_are_parsed()
 
 /// Each query that tokens derive is formed, and has no more column references than they are.
 pub fn derived_queries_are_formed()
-    ensures formed { (tokens : List Tok) (q : Select) → IsQuery tokens q → IsFormed q }
-    ensures columns { (tokens : List Tok) (q : Select) → IsQuery tokens q → length (columns_of q) ≤ length tokens }
+    ensures formed { (tokens : List Terminal) (q : Select) → IsQuery tokens q → IsFormed q }
+    ensures columns { (tokens : List Terminal) (q : Select) → IsQuery tokens q → length (columns_of q) ≤ length tokens }
 {}
 
 /// The same of a query that `parse` gives.

@@ -6,7 +6,7 @@ ghost use Rattle.ch_sql_limits.specs.Texts.{seen};
 ghost use Rattle.ch_sql.specs.Parsed.{Parses};
 
 use ch_cells::Listed;
-use ch_sql_grammar::{ParseError, Query, toks_of};
+use ch_sql_grammar::{ParseError, Query, terminals_of};
 use ch_sql_parser::query_of;
 use ch_sql_tokens::Token;
 use std::alloc::Global;
@@ -20,6 +20,6 @@ pub fn parse(alloc: Global, tokens: &Listed<Token>) -> Result<Query, ParseError>
     // What they derive within the limits is read, unless memory runs out.
     ensures only { (tree : Select) → IsQueryWithin (seen tokens.now) tree → Parses tree result }
 {
-    let toks = toks_of(alloc, tokens.as_slice())?;
-    query_of(alloc, toks.as_slice())
+    let terminals = terminals_of(alloc, tokens.as_slice())?;
+    query_of(alloc, terminals.as_slice())
 }

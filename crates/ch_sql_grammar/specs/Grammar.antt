@@ -1,10 +1,10 @@
 -- The grammar of queries: a derivation, the tokens that it spells and the tree that it stands for.
 use Rattle.std.specs.Prelude.{ℕ, ℤ, Bool, true, false, List, [], ◌∷◌, ◌++◌, ◌-◌, ◌≡◌, length, take, ◌⊎◌, Option, Some, None, option_map}
 use Rattle.std.specs.List.{list_all}
-use Rattle.ch_sql_grammar.specs.declared.tok.Mark.{Mark}
-use Rattle.ch_sql_grammar.specs.declared.tok.Mark.TheVariants as mark
-use Rattle.ch_sql_grammar.specs.declared.tok.Tok.{Tok}
-use Rattle.ch_sql_grammar.specs.declared.tok.Tok.TheVariants as tok
+use Rattle.ch_sql_grammar.specs.declared.terminal.Mark.{Mark}
+use Rattle.ch_sql_grammar.specs.declared.terminal.Mark.TheVariants as mark
+use Rattle.ch_sql_grammar.specs.declared.terminal.Terminal.{Terminal}
+use Rattle.ch_sql_grammar.specs.declared.terminal.Terminal.TheVariants as terminal
 use Rattle.ch_sql_grammar.specs.declared.query.ColumnRef.{ColumnRef}
 use Rattle.ch_pred.specs.declared.pred.Cmp.{Cmp}
 use Rattle.ch_pred.specs.declared.pred.Cmp.TheVariants as cmp
@@ -48,16 +48,16 @@ mutual
 
 -- the tokens of each
 
-abbrev pub qualifier : Option (List ℕ) → List Tok
+abbrev pub qualifier : Option (List ℕ) → List Terminal
 qualifier None = []
-qualifier (Some t) = tok.Name t ∷ tok.Mark mark.Dot ∷ []
+qualifier (Some t) = terminal.Name t ∷ terminal.Mark mark.Dot ∷ []
 
-abbrev pub col_tokens : ColumnRef → List Tok
-col_tokens col = qualifier col.table ++ (tok.Name col.name ∷ [])
+abbrev pub col_tokens : ColumnRef → List Terminal
+col_tokens col = qualifier col.table ++ (terminal.Name col.name ∷ [])
 
-abbrev pub literal_token : Literal → Tok
-literal_token (literal.Number n) = tok.Number n
-literal_token (literal.Text t) = tok.Text t
+abbrev pub literal_token : Literal → Terminal
+literal_token (literal.Number n) = terminal.Number n
+literal_token (literal.Text t) = terminal.Text t
 
 abbrev pub cmp_mark : Cmp → Mark
 cmp_mark cmp.Eq = mark.Eq
@@ -67,32 +67,32 @@ cmp_mark cmp.Le = mark.Le
 cmp_mark cmp.Gt = mark.Gt
 cmp_mark cmp.Ge = mark.Ge
 
-abbrev pub side_tokens : Side → List Tok
+abbrev pub side_tokens : Side → List Terminal
 side_tokens (side.Column col) = col_tokens col
 side_tokens (side.Value v) = literal_token v ∷ []
 
-abbrev pub listed_tokens : List Literal → List Tok
+abbrev pub listed_tokens : List Literal → List Terminal
 listed_tokens [] = []
-listed_tokens (v ∷ vs) = literal_token v ∷ tok.Mark mark.Comma ∷ listed_tokens vs
+listed_tokens (v ∷ vs) = literal_token v ∷ terminal.Mark mark.Comma ∷ listed_tokens vs
 
-abbrev pub atom_tokens : Atom → List Tok
-atom_tokens (compare col c s) = col_tokens col ++ (tok.Mark (cmp_mark c) ∷ side_tokens s)
-atom_tokens (between col low high) = col_tokens col ++ (tok.Mark mark.Between ∷ literal_token low ∷ tok.Mark mark.And ∷ literal_token high ∷ [])
-atom_tokens (within col front last) = col_tokens col ++ (tok.Mark mark.In ∷ tok.Mark mark.LeftParen ∷ (listed_tokens front ++ (literal_token last ∷ tok.Mark mark.RightParen ∷ [])))
-atom_tokens (like col text) = col_tokens col ++ (tok.Mark mark.Like ∷ tok.Text text ∷ [])
+abbrev pub atom_tokens : Atom → List Terminal
+atom_tokens (compare col c s) = col_tokens col ++ (terminal.Mark (cmp_mark c) ∷ side_tokens s)
+atom_tokens (between col low high) = col_tokens col ++ (terminal.Mark mark.Between ∷ literal_token low ∷ terminal.Mark mark.And ∷ literal_token high ∷ [])
+atom_tokens (within col front last) = col_tokens col ++ (terminal.Mark mark.In ∷ terminal.Mark mark.LeftParen ∷ (listed_tokens front ++ (literal_token last ∷ terminal.Mark mark.RightParen ∷ [])))
+atom_tokens (like col text) = col_tokens col ++ (terminal.Mark mark.Like ∷ terminal.Text text ∷ [])
 
 abbrev mutual
-  pub pred_tokens : Pred → List Tok
+  pub pred_tokens : Pred → List Terminal
   pred_tokens (conj c) = conj_tokens c
-  pred_tokens (or p c) = pred_tokens p ++ (tok.Mark mark.Or ∷ conj_tokens c)
+  pred_tokens (or p c) = pred_tokens p ++ (terminal.Mark mark.Or ∷ conj_tokens c)
 
-  pub conj_tokens : Conj → List Tok
+  pub conj_tokens : Conj → List Terminal
   conj_tokens (neg n) = neg_tokens n
-  conj_tokens (and c n) = conj_tokens c ++ (tok.Mark mark.And ∷ neg_tokens n)
+  conj_tokens (and c n) = conj_tokens c ++ (terminal.Mark mark.And ∷ neg_tokens n)
 
-  pub neg_tokens : Neg → List Tok
-  neg_tokens (not n) = tok.Mark mark.Not ∷ neg_tokens n
-  neg_tokens (parens p) = tok.Mark mark.LeftParen ∷ (pred_tokens p ++ (tok.Mark mark.RightParen ∷ []))
+  pub neg_tokens : Neg → List Terminal
+  neg_tokens (not n) = terminal.Mark mark.Not ∷ neg_tokens n
+  neg_tokens (parens p) = terminal.Mark mark.LeftParen ∷ (pred_tokens p ++ (terminal.Mark mark.RightParen ∷ []))
   neg_tokens (atom a) = atom_tokens a
 
 -- the tree of each
@@ -160,74 +160,74 @@ IsForm (semi front last outer key inner_key inner filter) = ArePlain front last
 IsForm (one front last table filter ending) = Unit {0}
 
 -- each with a comma behind it
-abbrev pub each : {A : Type 0} → (A → List Tok) → List A → List Tok
+abbrev pub each : {A : Type 0} → (A → List Terminal) → List A → List Terminal
 each f [] = []
-each f (x ∷ xs) = f x ++ (tok.Mark mark.Comma ∷ each f xs)
+each f (x ∷ xs) = f x ++ (terminal.Mark mark.Comma ∷ each f xs)
 
-abbrev pub extreme_tokens : Mark → ColumnRef → List Tok
-extreme_tokens m col = tok.Mark m ∷ tok.Mark mark.LeftParen ∷ (col_tokens col ++ (tok.Mark mark.RightParen ∷ []))
+abbrev pub extreme_tokens : Mark → ColumnRef → List Terminal
+extreme_tokens m col = terminal.Mark m ∷ terminal.Mark mark.LeftParen ∷ (col_tokens col ++ (terminal.Mark mark.RightParen ∷ []))
 
-abbrev pub item_tokens : Item → List Tok
-item_tokens item.Star = tok.Mark mark.Star ∷ []
+abbrev pub item_tokens : Item → List Terminal
+item_tokens item.Star = terminal.Mark mark.Star ∷ []
 item_tokens (item.Column col) = col_tokens col
 item_tokens (item.Max col) = extreme_tokens mark.Max col
 item_tokens (item.Min col) = extreme_tokens mark.Min col
 
-abbrev pub items_tokens : List Item → Item → List Tok
+abbrev pub items_tokens : List Item → Item → List Terminal
 items_tokens front last = each item_tokens front ++ item_tokens last
 
-abbrev pub where_tokens : Option Pred → List Tok
+abbrev pub where_tokens : Option Pred → List Terminal
 where_tokens None = []
-where_tokens (Some p) = tok.Mark mark.Where ∷ pred_tokens p
+where_tokens (Some p) = terminal.Mark mark.Where ∷ pred_tokens p
 
-abbrev pub and_tokens : Option Conj → List Tok
+abbrev pub and_tokens : Option Conj → List Terminal
 and_tokens None = []
-and_tokens (Some c) = tok.Mark mark.And ∷ conj_tokens c
+and_tokens (Some c) = terminal.Mark mark.And ∷ conj_tokens c
 
-abbrev pub direction_tokens : Direction → List Tok
+abbrev pub direction_tokens : Direction → List Terminal
 direction_tokens unsaid = []
-direction_tokens ascending = tok.Mark mark.Asc ∷ []
-direction_tokens descending = tok.Mark mark.Desc ∷ []
+direction_tokens ascending = terminal.Mark mark.Asc ∷ []
+direction_tokens descending = terminal.Mark mark.Desc ∷ []
 
-abbrev pub agg_tokens : Agg → List Tok
+abbrev pub agg_tokens : Agg → List Terminal
 agg_tokens (agg.Sum col) = extreme_tokens mark.Sum col
-agg_tokens agg.Count = tok.Mark mark.Count ∷ tok.Mark mark.LeftParen ∷ tok.Mark mark.Star ∷ tok.Mark mark.RightParen ∷ []
+agg_tokens agg.Count = terminal.Mark mark.Count ∷ terminal.Mark mark.LeftParen ∷ terminal.Mark mark.Star ∷ terminal.Mark mark.RightParen ∷ []
 
-abbrev pub having_tokens : Option Having → List Tok
+abbrev pub having_tokens : Option Having → List Terminal
 having_tokens None = []
-having_tokens (Some h) = tok.Mark mark.Having ∷ (agg_tokens h.agg ++ (tok.Mark mark.Gt ∷ tok.Number h.above ∷ []))
+having_tokens (Some h) = terminal.Mark mark.Having ∷ (agg_tokens h.agg ++ (terminal.Mark mark.Gt ∷ terminal.Number h.above ∷ []))
 
 abbrev pub dim_mark : Bool → Mark
 dim_mark true = mark.Max
 dim_mark false = mark.Min
 
-abbrev pub dim_tokens : SkyDim → List Tok
-dim_tokens d = col_tokens d.col ++ (tok.Mark (dim_mark d.max) ∷ [])
+abbrev pub dim_tokens : SkyDim → List Terminal
+dim_tokens d = col_tokens d.col ++ (terminal.Mark (dim_mark d.max) ∷ [])
 
-abbrev pub ending_tokens : Ending → List Tok
-ending_tokens (top by direction number) = tok.Mark mark.Order ∷ tok.Mark mark.By ∷ (col_tokens by ++ (direction_tokens direction ++ (tok.Mark mark.Limit ∷ tok.Number number ∷ [])))
-ending_tokens (group front last having) = tok.Mark mark.Group ∷ tok.Mark mark.By ∷ (each col_tokens front ++ (col_tokens last ++ having_tokens having))
-ending_tokens (skyline front last) = tok.Mark mark.Skyline ∷ tok.Mark mark.Of ∷ (each dim_tokens front ++ dim_tokens last)
+abbrev pub ending_tokens : Ending → List Terminal
+ending_tokens (top by direction number) = terminal.Mark mark.Order ∷ terminal.Mark mark.By ∷ (col_tokens by ++ (direction_tokens direction ++ (terminal.Mark mark.Limit ∷ terminal.Number number ∷ [])))
+ending_tokens (group front last having) = terminal.Mark mark.Group ∷ terminal.Mark mark.By ∷ (each col_tokens front ++ (col_tokens last ++ having_tokens having))
+ending_tokens (skyline front last) = terminal.Mark mark.Skyline ∷ terminal.Mark mark.Of ∷ (each dim_tokens front ++ dim_tokens last)
 
-abbrev pub endings_tokens : Option Ending → List Tok
+abbrev pub endings_tokens : Option Ending → List Terminal
 endings_tokens None = []
 endings_tokens (Some e) = ending_tokens e
 
 -- what stands before the filter
 
-abbrev pub one_tokens : List Item → Item → List ℕ → List Tok
-one_tokens front last table = tok.Mark mark.Select ∷ (items_tokens front last ++ (tok.Mark mark.From ∷ tok.Name table ∷ []))
+abbrev pub one_tokens : List Item → Item → List ℕ → List Terminal
+one_tokens front last table = terminal.Mark mark.Select ∷ (items_tokens front last ++ (terminal.Mark mark.From ∷ terminal.Name table ∷ []))
 
-abbrev pub distinct_tokens : List Item → Item → List ℕ → List Tok
-distinct_tokens front last table = tok.Mark mark.Select ∷ tok.Mark mark.Distinct ∷ (items_tokens front last ++ (tok.Mark mark.From ∷ tok.Name table ∷ []))
+abbrev pub distinct_tokens : List Item → Item → List ℕ → List Terminal
+distinct_tokens front last table = terminal.Mark mark.Select ∷ terminal.Mark mark.Distinct ∷ (items_tokens front last ++ (terminal.Mark mark.From ∷ terminal.Name table ∷ []))
 
-abbrev pub join_tokens : List Item → Item → List ℕ → List ℕ → ColumnRef → ColumnRef → List Tok
-join_tokens front last left right first_on second_on = one_tokens front last left ++ (tok.Mark mark.Join ∷ tok.Name right ∷ tok.Mark mark.On ∷ (col_tokens first_on ++ (tok.Mark mark.Eq ∷ col_tokens second_on)))
+abbrev pub join_tokens : List Item → Item → List ℕ → List ℕ → ColumnRef → ColumnRef → List Terminal
+join_tokens front last left right first_on second_on = one_tokens front last left ++ (terminal.Mark mark.Join ∷ terminal.Name right ∷ terminal.Mark mark.On ∷ (col_tokens first_on ++ (terminal.Mark mark.Eq ∷ col_tokens second_on)))
 
-abbrev pub semi_tokens : List Item → Item → List ℕ → ColumnRef → ColumnRef → List ℕ → List Tok
-semi_tokens front last outer key inner_key inner = one_tokens front last outer ++ (tok.Mark mark.Where ∷ (col_tokens key ++ (tok.Mark mark.In ∷ tok.Mark mark.LeftParen ∷ tok.Mark mark.Select ∷ (col_tokens inner_key ++ (tok.Mark mark.From ∷ tok.Name inner ∷ tok.Mark mark.RightParen ∷ [])))))
+abbrev pub semi_tokens : List Item → Item → List ℕ → ColumnRef → ColumnRef → List ℕ → List Terminal
+semi_tokens front last outer key inner_key inner = one_tokens front last outer ++ (terminal.Mark mark.Where ∷ (col_tokens key ++ (terminal.Mark mark.In ∷ terminal.Mark mark.LeftParen ∷ terminal.Mark mark.Select ∷ (col_tokens inner_key ++ (terminal.Mark mark.From ∷ terminal.Name inner ∷ terminal.Mark mark.RightParen ∷ [])))))
 
-abbrev pub form_tokens : Form → List Tok
+abbrev pub form_tokens : Form → List Terminal
 form_tokens (distinct front last table filter) = distinct_tokens front last table ++ where_tokens filter
 form_tokens (join front last left right first_on second_on filter) = join_tokens front last left right first_on second_on ++ where_tokens filter
 form_tokens (semi front last outer key inner_key inner filter) = semi_tokens front last outer key inner_key inner ++ and_tokens filter
@@ -259,17 +259,17 @@ form_tree (semi front last outer key inner_key inner filter) = record { distinct
 form_tree (one front last table filter ending) = record { distinct = false; items = front ++ (last ∷ []); source = source.One table; filter = option_map pred_tree filter; tail = endings_tree ending }
 
 -- these tokens are a query, with or without a semicolon, which has this tree
-pub record IsQuery (tokens : List Tok) (tree : Select) : Type 0 where
+pub record IsQuery (tokens : List Terminal) (tree : Select) : Type 0 where
   pub form : Form
   pub is_form : IsForm form
-  pub spelled : (tokens ≡ form_tokens form) ⊎ (tokens ≡ form_tokens form ++ (tok.Mark mark.Semicolon ∷ []))
+  pub spelled : (tokens ≡ form_tokens form) ⊎ (tokens ≡ form_tokens form ++ (terminal.Mark mark.Semicolon ∷ []))
   pub stands_for : tree ≡ form_tree form
 
 -- these tokens begin a query
-abbrev pub Begins : List Tok → Type 0
-Begins tokens = (rest : List Tok) × (tree : Select) × IsQuery (tokens ++ rest) tree
+abbrev pub Begins : List Terminal → Type 0
+Begins tokens = (rest : List Terminal) × (tree : Select) × IsQuery (tokens ++ rest) tree
 
 -- what follows the front ends it: with the next token it begins none, and with no token it is none
-abbrev pub IsEnd : List Tok → List Tok → Type 0
+abbrev pub IsEnd : List Terminal → List Terminal → Type 0
 IsEnd front [] = (tree : Select) → IsQuery front tree → ⊥
 IsEnd front (t ∷ ts) = Begins (front ++ (t ∷ [])) → ⊥

@@ -1,8 +1,8 @@
 -- The places of a head, and what a token does there.
 use Rattle.std.specs.Prelude.{ℕ, Bool, true, false, not, ◌&&◌, List, [], ◌∷◌, ◌++◌, Option, Some, None, if◌then◌else◌}
-use Rattle.ch_sql_grammar.specs.declared.tok.Mark.{Mark}
-use Rattle.ch_sql_grammar.specs.declared.tok.Mark.TheVariants as mark
-use Rattle.ch_sql_grammar.specs.declared.tok.Tok.{Tok}
+use Rattle.ch_sql_grammar.specs.declared.terminal.Mark.{Mark}
+use Rattle.ch_sql_grammar.specs.declared.terminal.Mark.TheVariants as mark
+use Rattle.ch_sql_grammar.specs.declared.terminal.Terminal.{Terminal}
 use Rattle.ch_sql_grammar.specs.declared.query.ColumnRef.{ColumnRef}
 use Rattle.ch_sql_grammar.specs.declared.query.Item.{Item}
 use Rattle.ch_sql_grammar.specs.declared.query.Item.TheVariants as item
@@ -17,7 +17,7 @@ use Rattle.ch_sql_grammar.specs.declared.head.HeadStep.TheVariants as step
 use Rattle.ch_sql_grammar.specs.Tree.{bare_col, col_of}
 use Rattle.ch_sql_grammar.specs.Tokens.{has_mark, name_in}
 
-abbrev pub on_mark : Mark → Tok → HeadPlace → HeadStep
+abbrev pub on_mark : Mark → Terminal → HeadPlace → HeadStep
 on_mark m t next = if has_mark m t then step.On next else step.Stuck
 
 abbrev pub on_name : Option (List ℕ) → (List ℕ → HeadPlace) → HeadStep
@@ -44,20 +44,20 @@ taken_by (taker.FirstOn items left right) col = place.Equals items left right co
 taken_by (taker.SecondOn items left right first_on) col = place.Whole (join_head items left right first_on col)
 taken_by (taker.InnerKey items outer key) col = place.InnerFrom items outer key col
 
-abbrev pub items_step_of : Bool → List Item → Tok → HeadStep
+abbrev pub items_step_of : Bool → List Item → Terminal → HeadStep
 items_step_of distinct items t =
     if has_mark mark.Star t then step.On (place.Listing distinct (items ++ (item.Star ∷ []))) else
     if has_mark mark.Max t && not distinct then step.On (place.Extreme items true) else
     if has_mark mark.Min t && not distinct then step.On (place.Extreme items false) else
     on_name (name_in t) (λ n. place.Name (taker.Item distinct items) n)
 
-abbrev pub listing_step_of : Bool → List Item → Tok → HeadStep
+abbrev pub listing_step_of : Bool → List Item → Terminal → HeadStep
 listing_step_of distinct items t = if has_mark mark.Comma t then step.On (place.Items distinct items) else on_mark mark.From t (place.From distinct items)
 
-abbrev pub closing_step_of : List Item → Bool → ColumnRef → Tok → HeadStep
+abbrev pub closing_step_of : List Item → Bool → ColumnRef → Terminal → HeadStep
 closing_step_of items max col t = on_mark mark.RightParen t (place.Listing false (items ++ (extreme max col ∷ [])))
 
-abbrev pub table_step_of : Bool → List Item → List ℕ → Tok → HeadStep
+abbrev pub table_step_of : Bool → List Item → List ℕ → Terminal → HeadStep
 table_step_of distinct items table t = if has_mark mark.Join t && not distinct then step.On (place.JoinTable items table) else step.Done (one_head distinct items table)
 
 abbrev pub dotted_step : HeadTaker → List ℕ → List ℕ → HeadStep
@@ -75,10 +75,10 @@ abbrev pub name_given : HeadPlace → Option (List ℕ) → HeadStep
 name_given p (Some n) = named_step p n
 name_given p None = step.Stuck
 
-abbrev pub name_step_of : HeadPlace → Tok → HeadStep
+abbrev pub name_step_of : HeadPlace → Terminal → HeadStep
 name_step_of p t = name_given p (name_in t)
 
-abbrev pub mark_step_of : HeadPlace → Tok → HeadStep
+abbrev pub mark_step_of : HeadPlace → Terminal → HeadStep
 mark_step_of place.Start t = on_mark mark.Select t place.Select
 mark_step_of (place.Extreme items max) t = on_mark mark.LeftParen t (place.Taking (taker.Extreme items max))
 mark_step_of (place.On items left right) t = on_mark mark.On t (place.Taking (taker.FirstOn items left right))
@@ -88,7 +88,7 @@ mark_step_of (place.InnerClose items outer key inner_key inner) t = on_mark mark
 mark_step_of p t = step.Stuck
 
 -- where no column may end before the token
-abbrev pub settled_of : HeadPlace → Tok → HeadStep
+abbrev pub settled_of : HeadPlace → Terminal → HeadStep
 settled_of place.Select t = if has_mark mark.Distinct t then step.On (place.Items true []) else items_step_of false [] t
 settled_of (place.Items distinct items) t = items_step_of distinct items t
 settled_of (place.Closing items max col) t = closing_step_of items max col t
@@ -104,7 +104,7 @@ settled_of (place.InnerTable items outer key inner_key) t = name_step_of (place.
 settled_of p t = mark_step_of p t
 
 -- a column with one name ends where no dot comes
-abbrev pub step_of : HeadPlace → Tok → HeadStep
+abbrev pub step_of : HeadPlace → Terminal → HeadStep
 step_of (place.Name taker n) t = if has_mark mark.Dot t then step.On (place.Dot taker n) else settled_of (taken_by taker (bare_col n)) t
 step_of p t = settled_of p t
 

@@ -1,8 +1,8 @@
 -- The places of a tail, and where a token leads from there.
 use Rattle.std.specs.Prelude.{ℕ, ℤ, Bool, true, false, ◌&&◌, List, [], ◌∷◌, ◌++◌, Option, Some, None, if◌then◌else◌}
-use Rattle.ch_sql_grammar.specs.declared.tok.Mark.{Mark}
-use Rattle.ch_sql_grammar.specs.declared.tok.Mark.TheVariants as mark
-use Rattle.ch_sql_grammar.specs.declared.tok.Tok.{Tok}
+use Rattle.ch_sql_grammar.specs.declared.terminal.Mark.{Mark}
+use Rattle.ch_sql_grammar.specs.declared.terminal.Mark.TheVariants as mark
+use Rattle.ch_sql_grammar.specs.declared.terminal.Terminal.{Terminal}
 use Rattle.ch_sql_grammar.specs.declared.query.ColumnRef.{ColumnRef}
 use Rattle.ch_sql_grammar.specs.declared.query.SkyDim.{SkyDim}
 use Rattle.ch_sql_grammar.specs.declared.query.Agg.{Agg}
@@ -17,7 +17,7 @@ use Rattle.ch_sql_grammar.specs.declared.tail.TailPlace.TheVariants as place
 use Rattle.ch_sql_grammar.specs.Tree.{bare_col, col_of}
 use Rattle.ch_sql_grammar.specs.Tokens.{has_mark, name_in, number_in}
 
-abbrev pub on_mark : Mark → Tok → TailPlace → Option TailPlace
+abbrev pub on_mark : Mark → Terminal → TailPlace → Option TailPlace
 on_mark m t next = if has_mark m t then Some next else None
 
 abbrev pub having_of : Agg → ℤ → Having
@@ -33,32 +33,32 @@ taken_by (taker.Key keys) col = place.Keys (keys ++ (col ∷ []))
 taken_by (taker.Sum keys) col = place.SumClose keys col
 taken_by (taker.Dim dims) col = place.DimDirection dims col
 
-abbrev pub start_step_of : Bool → Tok → Option TailPlace
+abbrev pub start_step_of : Bool → Terminal → Option TailPlace
 start_step_of begins t =
     if has_mark mark.Semicolon t then Some (place.Ended tail.Nothing) else
     if has_mark mark.Order t && begins then Some place.Order else
     if has_mark mark.Group t && begins then Some place.Group else
     if has_mark mark.Skyline t && begins then Some place.Skyline else None
 
-abbrev pub direction_step_of : ColumnRef → Tok → Option TailPlace
+abbrev pub direction_step_of : ColumnRef → Terminal → Option TailPlace
 direction_step_of by t =
     if has_mark mark.Asc t then Some (place.Limit by false) else
     if has_mark mark.Desc t then Some (place.Limit by true) else on_mark mark.Limit t (place.LimitNumber by false)
 
-abbrev pub keys_step_of : List ColumnRef → Tok → Option TailPlace
+abbrev pub keys_step_of : List ColumnRef → Terminal → Option TailPlace
 keys_step_of keys t =
     if has_mark mark.Comma t then Some (place.Taking (taker.Key keys)) else
     if has_mark mark.Having t then Some (place.Having keys) else on_mark mark.Semicolon t (place.Ended (tail.Group keys None))
 
-abbrev pub having_step_of : List ColumnRef → Tok → Option TailPlace
+abbrev pub having_step_of : List ColumnRef → Terminal → Option TailPlace
 having_step_of keys t = if has_mark mark.Sum t then Some (place.SumOpen keys) else on_mark mark.Count t (place.CountOpen keys)
 
-abbrev pub dim_step_of : List SkyDim → ColumnRef → Tok → Option TailPlace
+abbrev pub dim_step_of : List SkyDim → ColumnRef → Terminal → Option TailPlace
 dim_step_of dims col t =
     if has_mark mark.Max t then Some (place.Dims (dims ++ (dim_of col true ∷ []))) else
     if has_mark mark.Min t then Some (place.Dims (dims ++ (dim_of col false ∷ []))) else None
 
-abbrev pub dims_step_of : List SkyDim → Tok → Option TailPlace
+abbrev pub dims_step_of : List SkyDim → Terminal → Option TailPlace
 dims_step_of dims t = if has_mark mark.Comma t then Some (place.Taking (taker.Dim dims)) else on_mark mark.Semicolon t (place.Ended (tail.Skyline dims))
 
 abbrev pub dotted_step : TailTaker → List ℕ → List ℕ → Option TailPlace
@@ -73,7 +73,7 @@ abbrev pub name_given : TailPlace → Option (List ℕ) → Option TailPlace
 name_given p (Some n) = named_step p n
 name_given p None = None
 
-abbrev pub name_step_of : TailPlace → Tok → Option TailPlace
+abbrev pub name_step_of : TailPlace → Terminal → Option TailPlace
 name_step_of p t = name_given p (name_in t)
 
 abbrev pub numbered_step : TailPlace → ℤ → Option TailPlace
@@ -85,10 +85,10 @@ abbrev pub number_given : TailPlace → Option ℤ → Option TailPlace
 number_given p (Some n) = numbered_step p n
 number_given p None = None
 
-abbrev pub number_step_of : TailPlace → Tok → Option TailPlace
+abbrev pub number_step_of : TailPlace → Terminal → Option TailPlace
 number_step_of p t = number_given p (number_in t)
 
-abbrev pub mark_step_of : TailPlace → Tok → Option TailPlace
+abbrev pub mark_step_of : TailPlace → Terminal → Option TailPlace
 mark_step_of place.Order t = on_mark mark.By t (place.Taking taker.By)
 mark_step_of (place.Limit by descending) t = on_mark mark.Limit t (place.LimitNumber by descending)
 mark_step_of (place.SumOpen keys) t = on_mark mark.LeftParen t (place.Taking (taker.Sum keys))
@@ -101,7 +101,7 @@ mark_step_of (place.Whole whole) t = on_mark mark.Semicolon t (place.Ended whole
 mark_step_of p t = None
 
 -- where no column may end before the token
-abbrev pub settled_of : TailPlace → Tok → Option TailPlace
+abbrev pub settled_of : TailPlace → Terminal → Option TailPlace
 settled_of (place.Start begins) t = start_step_of begins t
 settled_of place.Group t = on_mark mark.By t (place.Taking (taker.Key []))
 settled_of place.Skyline t = on_mark mark.Of t (place.Taking (taker.Dim []))
@@ -118,7 +118,7 @@ settled_of (place.AboveNumber keys a) t = number_step_of (place.AboveNumber keys
 settled_of p t = mark_step_of p t
 
 -- a column with one name ends where no dot comes
-abbrev pub step_of : TailPlace → Tok → Option TailPlace
+abbrev pub step_of : TailPlace → Terminal → Option TailPlace
 step_of (place.Name taker n) t = if has_mark mark.Dot t then Some (place.Dot taker n) else settled_of (taken_by taker (bare_col n)) t
 step_of p t = settled_of p t
 

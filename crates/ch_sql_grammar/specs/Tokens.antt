@@ -1,9 +1,9 @@
 -- Tokens as the grammar sees them.
 use Rattle.std.specs.Prelude.{ℕ, Bool, false, List, Option, Some, None, option_and_then, slice_get, ◌==◌, ℤ}
-use Rattle.ch_sql_grammar.specs.declared.tok.Mark.{Mark}
-use Rattle.ch_sql_grammar.specs.declared.tok.Mark.TheVariants as mark
-use Rattle.ch_sql_grammar.specs.declared.tok.Tok.{Tok}
-use Rattle.ch_sql_grammar.specs.declared.tok.Tok.TheVariants as tok
+use Rattle.ch_sql_grammar.specs.declared.terminal.Mark.{Mark}
+use Rattle.ch_sql_grammar.specs.declared.terminal.Mark.TheVariants as mark
+use Rattle.ch_sql_grammar.specs.declared.terminal.Terminal.{Terminal}
+use Rattle.ch_sql_grammar.specs.declared.terminal.Terminal.TheVariants as terminal
 use Rattle.ch_sql_tokens.specs.declared.token.Token.{Token}
 use Rattle.ch_sql_tokens.specs.declared.token.Token.TheVariants as token
 use Rattle.ch_sql_tokens.specs.declared.token.Symbol.{Symbol}
@@ -54,25 +54,25 @@ mark_number mark.Dot = 34
 mark_number mark.Star = 35
 mark_number mark.Semicolon = 36
 
-abbrev pub has_mark : Mark → Tok → Bool
-has_mark m (tok.Mark k) = mark_number m == mark_number k
+abbrev pub has_mark : Mark → Terminal → Bool
+has_mark m (terminal.Mark k) = mark_number m == mark_number k
 has_mark m t = false
 
-abbrev pub name_in : Tok → Option (List ℕ)
-name_in (tok.Name n) = Some n
+abbrev pub name_in : Terminal → Option (List ℕ)
+name_in (terminal.Name n) = Some n
 name_in t = None
 
-abbrev pub number_in : Tok → Option ℤ
-number_in (tok.Number n) = Some n
+abbrev pub number_in : Terminal → Option ℤ
+number_in (terminal.Number n) = Some n
 number_in t = None
 
-abbrev pub literal_in : Tok → Option Literal
-literal_in (tok.Number n) = Some (literal.Number n)
-literal_in (tok.Text t) = Some (literal.Text t)
+abbrev pub literal_in : Terminal → Option Literal
+literal_in (terminal.Number n) = Some (literal.Number n)
+literal_in (terminal.Text t) = Some (literal.Text t)
 literal_in t = None
 
-abbrev pub text_in : Tok → Option (List ℕ)
-text_in (tok.Text t) = Some t
+abbrev pub text_in : Terminal → Option (List ℕ)
+text_in (terminal.Text t) = Some t
 text_in t = None
 
 abbrev pub mark_cmp : Mark → Option Cmp
@@ -84,29 +84,29 @@ mark_cmp mark.Gt = Some cmp.Gt
 mark_cmp mark.Ge = Some cmp.Ge
 mark_cmp m = None
 
-abbrev pub cmp_in : Tok → Option Cmp
-cmp_in (tok.Mark m) = mark_cmp m
+abbrev pub cmp_in : Terminal → Option Cmp
+cmp_in (terminal.Mark m) = mark_cmp m
 cmp_in t = None
 
 -- what the token with this number is
 
-abbrev pub is_there : Mark → Option Tok → Bool
+abbrev pub is_there : Mark → Option Terminal → Bool
 is_there m (Some t) = has_mark m t
 is_there m None = false
 
-unfoldable pub marked : Mark → List Tok → ℕ → Bool
+unfoldable pub marked : Mark → List Terminal → ℕ → Bool
 marked m tokens at = is_there m (slice_get tokens at)
 
-unfoldable pub name_at : List Tok → ℕ → Option (List ℕ)
+unfoldable pub name_at : List Terminal → ℕ → Option (List ℕ)
 name_at tokens at = option_and_then name_in (slice_get tokens at)
 
-unfoldable pub literal_at : List Tok → ℕ → Option Literal
+unfoldable pub literal_at : List Terminal → ℕ → Option Literal
 literal_at tokens at = option_and_then literal_in (slice_get tokens at)
 
-unfoldable pub text_at : List Tok → ℕ → Option (List ℕ)
+unfoldable pub text_at : List Terminal → ℕ → Option (List ℕ)
 text_at tokens at = option_and_then text_in (slice_get tokens at)
 
-unfoldable pub cmp_at : List Tok → ℕ → Option Cmp
+unfoldable pub cmp_at : List Terminal → ℕ → Option Cmp
 cmp_at tokens at = option_and_then cmp_in (slice_get tokens at)
 
 abbrev pub symbol_mark : Symbol → Mark
@@ -123,14 +123,14 @@ symbol_mark symbol.Dot = mark.Dot
 symbol_mark symbol.Star = mark.Star
 symbol_mark symbol.Semicolon = mark.Semicolon
 
-abbrev pub word_tok : Option Mark → List ℕ → Tok
-word_tok (Some m) w = tok.Mark m
-word_tok None w = tok.Name w
+abbrev pub word_terminal : Option Mark → List ℕ → Terminal
+word_terminal (Some m) w = terminal.Mark m
+word_terminal None w = terminal.Name w
 
 -- a word that is no keyword is a name, as a quoted name is
-abbrev pub tok_of : Token → Tok
-tok_of (token.Word w) = word_tok (keyword_of w) w
-tok_of (token.Quoted name) = tok.Name name
-tok_of (token.Number n) = tok.Number n
-tok_of (token.Text t) = tok.Text t
-tok_of (token.Symbol s) = tok.Mark (symbol_mark s)
+abbrev pub terminal_of : Token → Terminal
+terminal_of (token.Word w) = word_terminal (keyword_of w) w
+terminal_of (token.Quoted name) = terminal.Name name
+terminal_of (token.Number n) = terminal.Number n
+terminal_of (token.Text t) = terminal.Text t
+terminal_of (token.Symbol s) = terminal.Mark (symbol_mark s)

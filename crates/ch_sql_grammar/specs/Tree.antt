@@ -64,7 +64,7 @@ abbrev pub any_of : List Plain → Plain
 any_of (p ∷ []) = p
 any_of ps = Or (plains ps)
 
--- a query whose predicate is a plain tree
+-- a query whose filter is a plain tree
 pub record Select : Type 0 where
   pub distinct : Bool
   pub items : List Item

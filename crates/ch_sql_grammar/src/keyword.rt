@@ -1,7 +1,7 @@
 ghost use Rattle.std.specs.Prelude.{◌≡◌};
 ghost use Rattle.ch_sql_grammar.specs.Keyword.{keyword_of, select_keyword, tail_keyword, pred_keyword};
 
-use crate::tok::Mark;
+use crate::terminal::Mark;
 
 /// The keyword of a list of items or a source that a word is.
 fn select_keyword_in(word: &[u8]) -> Option<Mark>

@@ -7,7 +7,7 @@ mod keyword;
 mod limits;
 mod query;
 mod tail;
-mod tok;
+mod terminal;
 
 pub use error::ParseError;
 pub use head::{Head, HeadPlace, HeadStep, HeadTaker};
@@ -15,7 +15,7 @@ pub use keyword::keyword_in;
 pub use limits::{MAX_DEPTH, MAX_LITERALS};
 pub use query::{Agg, ColumnRef, Having, Item, Pred, Query, Side, SkyDim, Source, Tail};
 pub use tail::{TailPlace, TailTaker};
-pub use tok::{Mark, Tok, is_mark, name_of, toks_of};
+pub use terminal::{Mark, Terminal, is_mark, name_of, terminals_of};
 
 #[cfg(test)]
 mod tests;

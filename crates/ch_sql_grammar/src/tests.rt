@@ -1,5 +1,5 @@
 use crate::keyword::keyword_in;
-use crate::tok::{Mark, Tok, is_mark, name_of, toks_of};
+use crate::terminal::{Mark, Terminal, is_mark, name_of, terminals_of};
 use ch_cells::Bytes;
 use ch_sql_tokens::{Symbol, Token};
 use std::test::Fail;
@@ -52,15 +52,15 @@ fn quotes_make_a_name_of_a_keyword(rt: HostRuntime) -> Result<(), Fail> {
     tokens.push(Token::Word(Bytes::from_slice(rt.alloc(), b"Select")?))?;
     tokens.push(Token::Quoted(Bytes::from_slice(rt.alloc(), b"Select")?))?;
     tokens.push(Token::Symbol(Symbol::Ne))?;
-    let toks = toks_of(rt.alloc(), tokens.as_slice())?;
-    assert_eq!(rt; toks.len(), 3);
-    assert!(rt; is_mark(Mark::Select, &toks[0]));
-    assert!(rt; !is_mark(Mark::Select, &toks[1]));
-    assert!(rt; is_mark(Mark::Ne, &toks[2]));
-    match name_of(&toks[1]) {
+    let terminals = terminals_of(rt.alloc(), tokens.as_slice())?;
+    assert_eq!(rt; terminals.len(), 3);
+    assert!(rt; is_mark(Mark::Select, &terminals[0]));
+    assert!(rt; !is_mark(Mark::Select, &terminals[1]));
+    assert!(rt; is_mark(Mark::Ne, &terminals[2]));
+    match name_of(&terminals[1]) {
         Some(name) => assert!(rt; name.as_slice() == b"Select".as_slice()),
         None => assert!(rt; false, "no name"),
     }
-    assert!(rt; matches!(toks[0], Tok::Mark(Mark::Select)));
+    assert!(rt; matches!(terminals[0], Terminal::Mark(Mark::Select)));
     Ok(())
 }

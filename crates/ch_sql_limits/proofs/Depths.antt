@@ -4,7 +4,7 @@ use Rattle.std.proofs.lemmas.Bool.{ltb-true, lt-ltb}
 use Rattle.ch_pred.specs.declared.pred.Literal.{Literal}
 use Rattle.ch_sql_grammar.specs.Grammar as grammar
 use Rattle.ch_sql_grammar.specs.Grammar.{Pred, conj, or, Conj, neg, and, Neg, not, parens, atom}
-use Rattle.ch_sql_places.specs.Machine.{Place, is_prefix}
+use Rattle.ch_sql_places.specs.Machine.{Place, is_pattern}
 use Rattle.ch_sql_places.proofs.Run.{Check, opens, lists, matches, Fold, Settled, literals_on, atom_on, pred_on, conj_on, neg_on, where_on, and_on, form_on}
 use Rattle.ch_sql_places.proofs.Walked.{and_left, and_right}
 use Rattle.ch_sql_limits.specs.Limits.{pred_depth, conj_depth, neg_depth, AtomFits, PredAtomsFit, ConjAtomsFit, NegAtomsFit, FilterFits, SemiFilterFits, FitsLimits}
@@ -14,7 +14,7 @@ use Rattle.ch_sql_limits.specs.Limits.{pred_depth, conj_depth, neg_depth, AtomFi
 abbrev pub keeps : Check → Bool
 keeps (opens depth) = nat_lt depth 32
 keeps (lists number) = nat_lt number 16
-keeps (matches text) = is_prefix text
+keeps (matches text) = is_pattern text
 
 abbrev pub keeping : Fold Bool
 keeping = record { on = λ c r. keeps c && r; stuck = true; end = λ place. true }
@@ -32,7 +32,7 @@ atom_fits : (a : grammar.Atom) (r : Bool) → atom_on keeping a r ≡ true → A
 atom_fits (grammar.compare col c s) r e = (tt, e)
 atom_fits (grammar.between col low high) r e = (tt, e)
 atom_fits (grammar.within col front last) r e = let h = literals_fit front last 0 r e in let k = h.0 in (omega arith, h.1)
-atom_fits (grammar.like col text) r e = (and_left (is_prefix text) r e, and_right (is_prefix text) r e)
+atom_fits (grammar.like col text) r e = (and_left (is_pattern text) r e, and_right (is_pattern text) r e)
 
 mutual
   pred_fits : (p : Pred) (d : ℕ) (r : Bool) → d ≤ 32 → pred_on keeping d p r ≡ true → (d + pred_depth p ≤ 32) × PredAtomsFit p × (r ≡ true)

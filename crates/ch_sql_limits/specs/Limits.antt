@@ -1,13 +1,13 @@
 -- The derivations within the limits.
 use Rattle.std.specs.Prelude.{ℕ, ◌+◌, ◌≤◌, ◌≡◌, max, true, List, [], ◌∷◌, ◌++◌, length, ◌⊎◌, Option, Some, None}
 use Rattle.ch_sql_grammar.specs.declared.limits.TheConstants.{MAX_DEPTH, MAX_LITERALS}
-use Rattle.ch_sql_grammar.specs.declared.tok.Mark.TheVariants as mark
-use Rattle.ch_sql_grammar.specs.declared.tok.Tok.{Tok}
-use Rattle.ch_sql_grammar.specs.declared.tok.Tok.TheVariants as tok
+use Rattle.ch_sql_grammar.specs.declared.terminal.Mark.TheVariants as mark
+use Rattle.ch_sql_grammar.specs.declared.terminal.Terminal.{Terminal}
+use Rattle.ch_sql_grammar.specs.declared.terminal.Terminal.TheVariants as terminal
 use Rattle.ch_sql_grammar.specs.Tree.{Select}
 use Rattle.ch_sql_grammar.specs.Grammar as grammar
 use Rattle.ch_sql_grammar.specs.Grammar.{Pred, conj, or, Conj, neg, and, Neg, not, parens, atom, Form, IsForm, form_tokens, form_tree}
-use Rattle.ch_sql_places.specs.Machine.{is_prefix}
+use Rattle.ch_sql_places.specs.Machine.{is_pattern}
 
 -- how many NOT and parentheses stand inside each other
 abbrev mutual
@@ -29,7 +29,7 @@ abbrev pub AtomFits : grammar.Atom → Type 0
 AtomFits (grammar.compare col c s) = Unit {0}
 AtomFits (grammar.between col low high) = Unit {0}
 AtomFits (grammar.within col front last) = length (front ++ (last ∷ [])) ≤ MAX_LITERALS
-AtomFits (grammar.like col text) = is_prefix text ≡ true
+AtomFits (grammar.like col text) = is_pattern text ≡ true
 
 -- each atom fits
 abbrev mutual
@@ -68,9 +68,9 @@ FitsLimits (grammar.semi front last outer key inner_key inner filter) = SemiFilt
 FitsLimits (grammar.one front last table filter ending) = FilterFits filter
 
 -- these tokens are a query within the limits, with or without a semicolon, which has this tree
-pub record IsQueryWithin (tokens : List Tok) (tree : Select) : Type 0 where
+pub record IsQueryWithin (tokens : List Terminal) (tree : Select) : Type 0 where
   pub form : Form
   pub is_form : IsForm form
   pub fits : FitsLimits form
-  pub spelled : (tokens ≡ form_tokens form) ⊎ (tokens ≡ form_tokens form ++ (tok.Mark mark.Semicolon ∷ []))
+  pub spelled : (tokens ≡ form_tokens form) ⊎ (tokens ≡ form_tokens form ++ (terminal.Mark mark.Semicolon ∷ []))
   pub stands_for : tree ≡ form_tree form

@@ -1,9 +1,9 @@
 -- Derivations and tokens whose depth and limits are plain to see.
 use Rattle.std.specs.Prelude.{ℕ, zero, suc, pos, List, [], ◌∷◌, ◌++◌, replicate, Some, None}
-use Rattle.ch_sql_grammar.specs.declared.tok.Mark.{Mark}
-use Rattle.ch_sql_grammar.specs.declared.tok.Mark.TheVariants as mark
-use Rattle.ch_sql_grammar.specs.declared.tok.Tok.{Tok}
-use Rattle.ch_sql_grammar.specs.declared.tok.Tok.TheVariants as tok
+use Rattle.ch_sql_grammar.specs.declared.terminal.Mark.{Mark}
+use Rattle.ch_sql_grammar.specs.declared.terminal.Mark.TheVariants as mark
+use Rattle.ch_sql_grammar.specs.declared.terminal.Terminal.{Terminal}
+use Rattle.ch_sql_grammar.specs.declared.terminal.Terminal.TheVariants as terminal
 use Rattle.ch_sql_grammar.specs.declared.query.Item.TheVariants as item
 use Rattle.ch_sql_grammar.specs.declared.query.ColumnRef.{ColumnRef}
 use Rattle.ch_pred.specs.declared.pred.Literal.TheVariants as literal
@@ -37,27 +37,27 @@ abbrev pub all_where : Neg → Form
 all_where n = grammar.one [] item.Star (97 ∷ []) (Some (conj (neg n))) None
 
 -- `SELECT * FROM a WHERE`, and these tokens
-abbrev pub where_these : List Tok → List Tok
-where_these ts = tok.Mark mark.Select ∷ tok.Mark mark.Star ∷ tok.Mark mark.From ∷ tok.Name (97 ∷ []) ∷ tok.Mark mark.Where ∷ ts
+abbrev pub where_these : List Terminal → List Terminal
+where_these ts = terminal.Mark mark.Select ∷ terminal.Mark mark.Star ∷ terminal.Mark mark.From ∷ terminal.Name (97 ∷ []) ∷ terminal.Mark mark.Where ∷ ts
 
 -- n times the mark
-abbrev pub times : ℕ → Mark → List Tok
-times n m = replicate n (tok.Mark m)
+abbrev pub times : ℕ → Mark → List Terminal
+times n m = replicate n (terminal.Mark m)
 
 -- n times `NOT (`
-abbrev pub in_turn : ℕ → List Tok
+abbrev pub in_turn : ℕ → List Terminal
 in_turn zero = []
-in_turn (suc k) = tok.Mark mark.Not ∷ tok.Mark mark.LeftParen ∷ in_turn k
+in_turn (suc k) = terminal.Mark mark.Not ∷ terminal.Mark mark.LeftParen ∷ in_turn k
 
 -- n times `0,`
-abbrev pub zeros : ℕ → List Tok
+abbrev pub zeros : ℕ → List Terminal
 zeros zero = []
-zeros (suc k) = tok.Number (pos 0) ∷ tok.Mark mark.Comma ∷ zeros k
+zeros (suc k) = terminal.Number (pos 0) ∷ terminal.Mark mark.Comma ∷ zeros k
 
 -- `a IN (0, .., 0,` of 16 literals, and this token
-abbrev pub behind_sixteen : Tok → List Tok
-behind_sixteen t = tok.Name (97 ∷ []) ∷ tok.Mark mark.In ∷ tok.Mark mark.LeftParen ∷ (zeros 16 ++ (t ∷ []))
+abbrev pub behind_sixteen : Terminal → List Terminal
+behind_sixteen t = terminal.Name (97 ∷ []) ∷ terminal.Mark mark.In ∷ terminal.Mark mark.LeftParen ∷ (zeros 16 ++ (t ∷ []))
 
 -- `a LIKE 'TEXT'`
-abbrev pub like_tokens : List ℕ → List Tok
-like_tokens text = tok.Name (97 ∷ []) ∷ tok.Mark mark.Like ∷ tok.Text text ∷ []
+abbrev pub like_tokens : List ℕ → List Terminal
+like_tokens text = terminal.Name (97 ∷ []) ∷ terminal.Mark mark.Like ∷ terminal.Text text ∷ []

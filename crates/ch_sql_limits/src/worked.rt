@@ -1,8 +1,8 @@
 ghost use Rattle.std.specs.Prelude.{◌≡◌, ◌≤◌, [], ◌∷◌};
 ghost use Rattle.ch_sql_limits.specs.Limits.{neg_depth, FitsLimits};
 ghost use Rattle.std.specs.Prelude.{◌++◌, pos};
-ghost use Rattle.ch_sql_grammar.specs.declared.tok.Mark.TheVariants.{Not, LeftParen, Star};
-ghost use Rattle.ch_sql_grammar.specs.declared.tok.Tok.TheVariants as tok;
+ghost use Rattle.ch_sql_grammar.specs.declared.terminal.Mark.TheVariants.{Not, LeftParen, Star};
+ghost use Rattle.ch_sql_grammar.specs.declared.terminal.Terminal.TheVariants as terminal;
 ghost use Rattle.ch_sql_grammar.specs.declared.error.ParseError.TheVariants.{Syntax, TooDeep, InTooLong, BadLike};
 ghost use Rattle.ch_sql_places.specs.Refusal.{IsRefusal};
 ghost use Rattle.ch_sql_limits.specs.Worked.{like_text, zeros_and_one, negated, mixed, all_where, where_these, times, in_turn, behind_sixteen, like_tokens};
@@ -35,9 +35,9 @@ pub fn refusals_are_worked()
     ensures nots { IsRefusal (where_these (times 33 Not)) (TooDeep 37) }
     ensures parentheses { IsRefusal (where_these (times 33 LeftParen)) (TooDeep 37) }
     ensures in_turn { IsRefusal (where_these (in_turn 17)) (TooDeep 37) }
-    ensures no_neg { IsRefusal (where_these (in_turn 16 ++ (tok.Mark Star ∷ []))) (Syntax 37) }
-    ensures seventeen { IsRefusal (where_these (behind_sixteen (tok.Number (pos 0)))) (InTooLong 40) }
-    ensures no_literal { IsRefusal (where_these (behind_sixteen (tok.Name (97 ∷ [])))) (Syntax 40) }
+    ensures no_neg { IsRefusal (where_these (in_turn 16 ++ (terminal.Mark Star ∷ []))) (Syntax 37) }
+    ensures seventeen { IsRefusal (where_these (behind_sixteen (terminal.Number (pos 0)))) (InTooLong 40) }
+    ensures no_literal { IsRefusal (where_these (behind_sixteen (terminal.Name (97 ∷ [])))) (Syntax 40) }
     ensures no_percent { IsRefusal (where_these (like_tokens (120 ∷ []))) (BadLike 7) }
     ensures nothing { IsRefusal (where_these (like_tokens [])) (BadLike 7) }
     ensures two_percents { IsRefusal (where_these (like_tokens (37 ∷ 37 ∷ []))) (BadLike 7) }

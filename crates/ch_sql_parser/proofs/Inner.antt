@@ -1,7 +1,7 @@
 -- From the inner key of a semi-join on, a head is a semi-join's.
 use Rattle.std.proofs.Common.{◌≡◌, ℕ, Bool, true, false, List, Option, Some, None, refl, if◌then◌else◌}
-use Rattle.ch_sql_grammar.specs.declared.tok.Mark.TheVariants as mark
-use Rattle.ch_sql_grammar.specs.declared.tok.Tok.{Tok}
+use Rattle.ch_sql_grammar.specs.declared.terminal.Mark.TheVariants as mark
+use Rattle.ch_sql_grammar.specs.declared.terminal.Terminal.{Terminal}
 use Rattle.ch_sql_grammar.specs.declared.query.ColumnRef.{ColumnRef}
 use Rattle.ch_sql_grammar.specs.declared.query.Item.{Item}
 use Rattle.ch_sql_grammar.specs.declared.head.HeadPlace.{HeadPlace}
@@ -33,7 +33,7 @@ dot_stays (taker.InnerKey items outer key) table (Some n) h = refl
 dot_stays (taker.InnerKey items outer key) table None h = tt
 dot_stays t table o h = cc
 
-name_stays : (taken : HeadTaker) (n : List ℕ) (t : Tok) → takes_inner taken ≡ true → StaysInner (step_of (head.Name taken n) t)
+name_stays : (taken : HeadTaker) (n : List ℕ) (t : Terminal) → takes_inner taken ≡ true → StaysInner (step_of (head.Name taken n) t)
 name_stays (taker.InnerKey items outer key) n t h = either_stays (has_mark mark.Dot t) _ _ refl (either_stays (has_mark mark.From t) _ _ refl tt)
 name_stays taken n t h = cc
 
@@ -41,7 +41,7 @@ table_stays : (items : List Item) (outer : List ℕ) (key inner_key : ColumnRef)
 table_stays items outer key inner_key (Some n) = refl
 table_stays items outer key inner_key None = tt
 
-pub stays : (p : HeadPlace) (t : Tok) → is_inner p ≡ true → StaysInner (step_of p t)
+pub stays : (p : HeadPlace) (t : Terminal) → is_inner p ≡ true → StaysInner (step_of p t)
 stays (head.Taking taken) t h = taking_stays taken (name_in t) h
 stays (head.Name taken n) t h = name_stays taken n t h
 stays (head.Dot taken n) t h = dot_stays taken n (name_in t) h

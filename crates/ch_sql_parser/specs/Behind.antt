@@ -1,8 +1,8 @@
 -- What stands behind a head, in words of the places.
 use Rattle.std.specs.Prelude.{ℕ, ◌+◌, ◌≡◌, ◌&&◌, Bool, true, false, List, Option, Some, None, Result, if◌then◌else◌}
-use Rattle.ch_sql_grammar.specs.declared.tok.Mark.{Mark}
-use Rattle.ch_sql_grammar.specs.declared.tok.Mark.TheVariants as mark
-use Rattle.ch_sql_grammar.specs.declared.tok.Tok.{Tok}
+use Rattle.ch_sql_grammar.specs.declared.terminal.Mark.{Mark}
+use Rattle.ch_sql_grammar.specs.declared.terminal.Mark.TheVariants as mark
+use Rattle.ch_sql_grammar.specs.declared.terminal.Terminal.{Terminal}
 use Rattle.ch_sql_grammar.specs.declared.query.ColumnRef.{ColumnRef}
 use Rattle.ch_sql_grammar.specs.declared.error.ParseError.{ParseError}
 use Rattle.ch_sql_grammar.specs.declared.head.Head.{Head}
@@ -32,11 +32,11 @@ is_inner (head.Whole h) = is_semi h.source
 is_inner p = false
 
 -- `IN ( SELECT` comes
-unfoldable pub opens_select : List Tok → ℕ → Bool
+unfoldable pub opens_select : List Terminal → ℕ → Bool
 opens_select tokens at = marked mark.In tokens at && marked mark.LeftParen tokens (at + 1) && marked mark.Select tokens (at + 2)
 
 -- Behind WHERE a key and the token behind its SELECT, and then the inner key comes; or else a predicate as anywhere.
-abbrev pub LeadsTo : List Tok → Head → ℕ → Option (ColumnRef × ℕ) → Type 0
+abbrev pub LeadsTo : List Terminal → Head → ℕ → Option (ColumnRef × ℕ) → Type 0
 LeadsTo tokens h at (Some r) = parse_at tokens (Lead h) at ≡ parse_at tokens (Heading (head.Taking (taker.InnerKey h.items (outer_of h.source) r.0))) r.1
 LeadsTo tokens h at None = parse_at tokens (Lead h) at ≡ parse_at tokens (Want (whole h)) at
 
@@ -45,6 +45,6 @@ abbrev pub filter_mark : Head → Mark
 filter_mark h = if is_semi h.source then mark.And else mark.Where
 
 -- what the tokens behind a head give, where no semi-join begins
-abbrev pub behind_head : List Tok → Head → ℕ → Result Select ParseError
+abbrev pub behind_head : List Terminal → Head → ℕ → Result Select ParseError
 behind_head tokens h at =
     if marked (filter_mark h) tokens at then parse_at tokens (Want (whole h)) (at + 1) else parse_at tokens (Tailing h None (place.Start (takes_tail h))) at

@@ -8,7 +8,7 @@ ghost use Rattle.ch_sql_parser.specs.Behind.{behind_head};
 use crate::descent::{conj, pred};
 use crate::tail_steps::{tail_end, tail_step};
 use crate::token_at::mark_at;
-use ch_sql_grammar::{Head, Mark, ParseError, Pred, Source, Tail, TailPlace, Tok};
+use ch_sql_grammar::{Head, Mark, ParseError, Pred, Source, Tail, TailPlace, Terminal};
 use std::alloc::Global;
 
 fn is_semi_join(source: &Source) -> bool
@@ -23,7 +23,7 @@ fn is_semi_join(source: &Source) -> bool
 /// The filter behind a head, if one comes, and the number of the token behind it.
 pub fn filter(
     alloc: Global,
-    tokens: &[Tok],
+    tokens: &[Terminal],
     head: &Head,
     at: usize,
 ) -> Result<(Option<Pred>, usize), ParseError>
@@ -46,7 +46,7 @@ pub fn filter(
 /// The tail that the tokens from `at` on are.
 pub fn tail_from(
     alloc: Global,
-    tokens: &[Tok],
+    tokens: &[Terminal],
     from: TailPlace,
     at: usize,
 ) -> Result<Tail, ParseError>

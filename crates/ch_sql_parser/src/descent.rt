@@ -1,6 +1,6 @@
 ghost use Rattle.std.specs.Prelude.{ℕ, ◌≡◌, ◌<◌, ◌≤◌, ◌∷◌, [], ◌++◌, ◌==◌, ◌&&◌, not, IfOk, IsTrue, length, List, map, true};
 ghost use Rattle.std.specs.List.{list_all};
-ghost use Rattle.ch_sql_places.specs.Machine.{Taker, First, Around, Level, Member, took, have, depth_of, level_depth, takes_or, Name, Compared, Low, In, Listed, LikeText, Want, Conjs, Closed, is_prefix};
+ghost use Rattle.ch_sql_places.specs.Machine.{Taker, First, Around, Level, Member, took, have, depth_of, level_depth, takes_or, Name, Compared, Low, In, Listed, LikeText, Want, Conjs, Closed, is_pattern};
 ghost use Rattle.ch_sql_places.specs.Parsing.{parse_at, Moves, LiteralAt, behind_list};
 ghost use Rattle.ch_sql_grammar.specs.Tree.{Plain, Not, plain_of, any_of, all_of};
 ghost use Rattle.ch_sql_grammar.specs.declared.query.ColumnRef.{ColumnRef};
@@ -9,22 +9,22 @@ ghost use Rattle.ch_sql_grammar.specs.Tokens.{literal_in};
 use crate::token_at::{cmp_there, mark_at, name_there, text_there};
 use ch_cells::{Bytes, Memory};
 use ch_pred::{Cmp, Literal};
-use ch_sql_grammar::{ColumnRef, MAX_DEPTH, MAX_LITERALS, Mark, ParseError, Pred, Side, Tok};
+use ch_sql_grammar::{ColumnRef, MAX_DEPTH, MAX_LITERALS, Mark, ParseError, Pred, Side, Terminal};
 use std::alloc::{AllocError, Global};
 
-fn copy_literal(alloc: Global, token: &Tok) -> Result<Option<Literal>, Memory>
+fn copy_literal(alloc: Global, token: &Terminal) -> Result<Option<Literal>, Memory>
     ensures { IfOk result (λ v. v ≡ literal_in token.now) }
 {
     match token {
-        Tok::Number(n) => Ok(Some(Literal::Number(*n))),
-        Tok::Text(text) => Ok(Some(Literal::Text(Bytes::from_slice(alloc, text.as_slice())?))),
+        Terminal::Number(n) => Ok(Some(Literal::Number(*n))),
+        Terminal::Text(text) => Ok(Some(Literal::Text(Bytes::from_slice(alloc, text.as_slice())?))),
         _ => Ok(None),
     }
 }
 
 /// The literal that comes.
 #[tactic(auto, unfolding(ch_sql_grammar::specs::Tokens::literal_at))]
-fn literal(alloc: Global, tokens: &[Tok], at: usize) -> Result<(Literal, usize), ParseError>
+fn literal(alloc: Global, tokens: &[Terminal], at: usize) -> Result<(Literal, usize), ParseError>
     ensures { LiteralAt tokens.now at result }
 {
     match tokens.get(at) {
@@ -40,7 +40,7 @@ fn literal(alloc: Global, tokens: &[Tok], at: usize) -> Result<(Literal, usize),
 #[tactic(auto, using(crate::proofs::Rules::machine))]
 fn column_after(
     alloc: Global,
-    tokens: &[Tok],
+    tokens: &[Terminal],
     first: &Bytes,
     at: usize,
 ) -> Result<(ColumnRef, usize), ParseError>
@@ -74,7 +74,7 @@ fn column_after(
 #[tactic(auto, using(crate::proofs::Rules::machine))]
 fn between(
     alloc: Global,
-    tokens: &[Tok],
+    tokens: &[Terminal],
     col: ColumnRef,
     at: usize,
 ) -> Result<(Pred, usize), ParseError>
@@ -93,7 +93,7 @@ fn between(
 #[tactic(auto, using(crate::proofs::Rules::machine))]
 fn compared(
     alloc: Global,
-    tokens: &[Tok],
+    tokens: &[Terminal],
     col: ColumnRef,
     cmp: Cmp,
     at: usize,
@@ -113,7 +113,7 @@ fn compared(
 #[tactic(auto, using(crate::proofs::Rules::machine))]
 fn within(
     alloc: Global,
-    tokens: &[Tok],
+    tokens: &[Terminal],
     col: ColumnRef,
     at: usize,
 ) -> Result<(Pred, usize), ParseError>
@@ -132,7 +132,11 @@ fn within(
 
 /// The literals up to one that no comma follows.
 #[tactic(auto, using(crate::proofs::Rules::machine))]
-fn listed(alloc: Global, tokens: &[Tok], at: usize) -> Result<(Vec<Literal>, usize), ParseError>
+fn listed(
+    alloc: Global,
+    tokens: &[Terminal],
+    at: usize,
+) -> Result<(Vec<Literal>, usize), ParseError>
     ensures moves { (around : Around) (col : ColumnRef) → Moves (parse_at tokens.now (Listed around col []) at) (λ r. behind_list tokens.now around col r.0.items r.1) result }
     ensures onward { IfOk result (λ r. at ≤ r.1) }
 {
@@ -155,7 +159,7 @@ fn listed(alloc: Global, tokens: &[Tok], at: usize) -> Result<(Vec<Literal>, usi
 #[tactic(auto, using(crate::proofs::Rules::machine))]
 fn like(
     alloc: Global,
-    tokens: &[Tok],
+    tokens: &[Terminal],
     col: ColumnRef,
     at: usize,
 ) -> Result<(Pred, usize), ParseError>
@@ -184,7 +188,7 @@ fn is_plain(text: &[u8]) -> bool
 
 /// Whether a text ends in `%` and has no other `%` and no `_`.
 fn ends_in_percent(text: &[u8]) -> bool
-    ensures value { result ≡ is_prefix text.now }
+    ensures value { result ≡ is_pattern text.now }
     ensures some { IsTrue result → 0 < length text.now }
 {
     if text.is_empty() {
@@ -205,7 +209,7 @@ fn negation(alloc: Global, inner: Pred) -> Result<Pred, AllocError>
 #[tactic(auto, using(crate::proofs::Rules::machine))]
 fn atom(
     alloc: Global,
-    tokens: &[Tok],
+    tokens: &[Terminal],
     first: &Bytes,
     at: usize,
 ) -> Result<(Pred, usize), ParseError>
@@ -259,7 +263,7 @@ fn all(parts: Vec<Pred>) -> Pred
 #[tactic(auto, using(crate::proofs::Rules::machine))]
 pub fn pred(
     alloc: Global,
-    tokens: &[Tok],
+    tokens: &[Terminal],
     at: usize,
     depth: u32,
 ) -> Result<(Pred, usize), ParseError>
@@ -283,7 +287,7 @@ pub fn pred(
 #[tactic(auto, using(crate::proofs::Rules::machine))]
 pub fn conj(
     alloc: Global,
-    tokens: &[Tok],
+    tokens: &[Terminal],
     at: usize,
     depth: u32,
 ) -> Result<(Pred, usize), ParseError>
@@ -305,7 +309,12 @@ pub fn conj(
 /// `NOT neg | "(" pred ")" | atom`.
 #[cycle(parsing)]
 #[tactic(auto, using(crate::proofs::Rules::machine))]
-fn neg(alloc: Global, tokens: &[Tok], at: usize, depth: u32) -> Result<(Pred, usize), ParseError>
+fn neg(
+    alloc: Global,
+    tokens: &[Terminal],
+    at: usize,
+    depth: u32,
+) -> Result<(Pred, usize), ParseError>
     requires { depth ≤ MAX_DEPTH }
     ensures moves { (around : Around) → depth_of around ≡ depth → Moves (parse_at tokens.now (Want around) at) (λ r. parse_at tokens.now (have (plain_of r.0) around) r.1) result }
     ensures onward { IfOk result (λ r. at < r.1) }

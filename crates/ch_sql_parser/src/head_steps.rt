@@ -6,21 +6,21 @@ ghost use Rattle.ch_sql_grammar.specs.HeadSteps.{on_mark, join_head, semi_head, 
 
 use ch_cells::{Bytes, Listed, Memory};
 use ch_sql_grammar::{
-    ColumnRef, Head, HeadPlace, HeadStep, HeadTaker, Item, Mark, Source, Tok, is_mark,
+    ColumnRef, Head, HeadPlace, HeadStep, HeadTaker, Item, Mark, Source, Terminal, is_mark,
 };
 use std::alloc::Global;
 
-fn copied_name(alloc: Global, token: &Tok) -> Result<Option<Bytes>, Memory>
+fn copied_name(alloc: Global, token: &Terminal) -> Result<Option<Bytes>, Memory>
     ensures { IfOk result (λ o. o ≡ name_in token.now) }
 {
     match token {
-        Tok::Name(name) => Ok(Some(Bytes::from_slice(alloc, name.as_slice())?)),
+        Terminal::Name(name) => Ok(Some(Bytes::from_slice(alloc, name.as_slice())?)),
         _ => Ok(None),
     }
 }
 
 /// The place behind a token that must be this mark.
-fn on(token: &Tok, mark: Mark, next: HeadPlace) -> HeadStep
+fn on(token: &Terminal, mark: Mark, next: HeadPlace) -> HeadStep
     ensures { result ≡ on_mark mark token.now next }
 {
     if is_mark(mark, token) {
@@ -77,7 +77,7 @@ fn item_step(
     alloc: Global,
     distinct: bool,
     items: Listed<Item>,
-    token: &Tok,
+    token: &Terminal,
 ) -> Result<HeadStep, Memory>
     ensures { IfOk result (λ s. s ≡ items_step_of distinct items token.now) }
 {
@@ -99,7 +99,7 @@ fn item_step(
 }
 
 /// Behind an item.
-fn list_step(distinct: bool, items: Listed<Item>, token: &Tok) -> HeadStep
+fn list_step(distinct: bool, items: Listed<Item>, token: &Terminal) -> HeadStep
     ensures { result ≡ listing_step_of distinct items token.now }
 {
     if is_mark(Mark::Comma, token) {
@@ -113,7 +113,7 @@ fn close_step(
     items: Listed<Item>,
     max: bool,
     col: ColumnRef,
-    token: &Tok,
+    token: &Terminal,
 ) -> Result<HeadStep, Memory>
     ensures { IfOk result (λ s. s ≡ closing_step_of items max col token.now) }
 {
@@ -127,7 +127,7 @@ fn close_step(
 }
 
 /// Behind the first table.
-fn table_step(distinct: bool, items: Listed<Item>, table: Bytes, token: &Tok) -> HeadStep
+fn table_step(distinct: bool, items: Listed<Item>, table: Bytes, token: &Terminal) -> HeadStep
     ensures { result ≡ table_step_of distinct items table token.now }
 {
     if is_mark(Mark::Join, token) && !distinct {
@@ -141,7 +141,7 @@ fn table_step(distinct: bool, items: Listed<Item>, table: Bytes, token: &Tok) ->
 }
 
 /// Where a column comes.
-fn take_step(alloc: Global, taker: HeadTaker, token: &Tok) -> Result<HeadStep, Memory>
+fn take_step(alloc: Global, taker: HeadTaker, token: &Terminal) -> Result<HeadStep, Memory>
     ensures { IfOk result (λ s. s ≡ name_step_of (place.Taking taker) token.now) }
 {
     match copied_name(alloc, token) {
@@ -169,7 +169,12 @@ fn dotted(taker: HeadTaker, table: Bytes, name: Bytes) -> Result<HeadStep, Memor
 }
 
 /// Behind the dot of a column.
-fn dot_step(alloc: Global, taker: HeadTaker, table: Bytes, token: &Tok) -> Result<HeadStep, Memory>
+fn dot_step(
+    alloc: Global,
+    taker: HeadTaker,
+    table: Bytes,
+    token: &Terminal,
+) -> Result<HeadStep, Memory>
     ensures { IfOk result (λ s. s ≡ name_step_of (place.Dot taker table) token.now) }
 {
     match copied_name(alloc, token) {
@@ -190,7 +195,7 @@ fn from_step(
     alloc: Global,
     distinct: bool,
     items: Listed<Item>,
-    token: &Tok,
+    token: &Terminal,
 ) -> Result<HeadStep, Memory>
     ensures { IfOk result (λ s. s ≡ name_step_of (place.From distinct items) token.now) }
 {
@@ -205,7 +210,7 @@ fn join_step(
     alloc: Global,
     items: Listed<Item>,
     left: Bytes,
-    token: &Tok,
+    token: &Terminal,
 ) -> Result<HeadStep, Memory>
     ensures { IfOk result (λ s. s ≡ name_step_of (place.JoinTable items left) token.now) }
 {
@@ -229,7 +234,7 @@ fn inner_step(
     outer: Bytes,
     key: ColumnRef,
     inner_key: ColumnRef,
-    token: &Tok,
+    token: &Terminal,
 ) -> Result<HeadStep, Memory>
     ensures { IfOk result (λ s. s ≡ name_step_of (place.InnerTable items outer key inner_key) token.now) }
 {
@@ -271,7 +276,7 @@ fn semi(
 }
 
 /// Behind a column that has ended.
-fn ended_step(taker: HeadTaker, col: ColumnRef, token: &Tok) -> Result<HeadStep, Memory>
+fn ended_step(taker: HeadTaker, col: ColumnRef, token: &Terminal) -> Result<HeadStep, Memory>
     ensures { IfOk result (λ s. s ≡ settled_of (taken_by taker col) token.now) }
 {
     match taker {
@@ -304,7 +309,7 @@ fn bare(name: Bytes) -> ColumnRef
 }
 
 /// Behind the first name of a column.
-fn name_step(taker: HeadTaker, name: Bytes, token: &Tok) -> Result<HeadStep, Memory>
+fn name_step(taker: HeadTaker, name: Bytes, token: &Terminal) -> Result<HeadStep, Memory>
     ensures { IfOk result (λ s. s ≡ step_of (place.Name taker name) token.now) }
 {
     if is_mark(Mark::Dot, token) {
@@ -314,7 +319,7 @@ fn name_step(taker: HeadTaker, name: Bytes, token: &Tok) -> Result<HeadStep, Mem
 }
 
 /// Behind SELECT.
-fn first_step(alloc: Global, token: &Tok) -> Result<HeadStep, Memory>
+fn first_step(alloc: Global, token: &Terminal) -> Result<HeadStep, Memory>
     ensures { IfOk result (λ s. s ≡ settled_of place.Select token.now) }
 {
     if is_mark(Mark::Distinct, token) {
@@ -324,7 +329,7 @@ fn first_step(alloc: Global, token: &Tok) -> Result<HeadStep, Memory>
 }
 
 /// What a token does at a place of a head.
-pub fn head_step(alloc: Global, place: HeadPlace, token: &Tok) -> Result<HeadStep, Memory>
+pub fn head_step(alloc: Global, place: HeadPlace, token: &Terminal) -> Result<HeadStep, Memory>
     ensures { IfOk result (λ s. s ≡ step_of place token.now) }
 {
     match place {

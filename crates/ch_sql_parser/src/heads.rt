@@ -10,14 +10,14 @@ use crate::head_steps::{head_end, head_step};
 use crate::token_at::{mark_at, name_there};
 use ch_cells::{Bytes, Memory};
 use ch_sql_grammar::{
-    ColumnRef, Head, HeadPlace, HeadStep, HeadTaker, Item, Mark, ParseError, Source, Tok,
+    ColumnRef, Head, HeadPlace, HeadStep, HeadTaker, Item, Mark, ParseError, Source, Terminal,
 };
 use std::alloc::Global;
 
 /// The head that the tokens from `at` on give, and the number of the token behind it.
 pub fn head_from(
     alloc: Global,
-    tokens: &[Tok],
+    tokens: &[Terminal],
     from: HeadPlace,
     at: usize,
 ) -> Result<(Head, usize), ParseError>
@@ -43,7 +43,7 @@ pub fn head_from(
 
 /// Whether `IN ( SELECT` comes.
 #[tactic(auto, unfolding(crate::specs::Behind::opens_select))]
-fn opens_inner(tokens: &[Tok], at: usize) -> bool
+fn opens_inner(tokens: &[Terminal], at: usize) -> bool
     ensures { result ≡ opens_select tokens.now at }
 {
     mark_at(tokens, at, Mark::In)
@@ -52,7 +52,11 @@ fn opens_inner(tokens: &[Tok], at: usize) -> bool
 }
 
 /// The key of a semi-join, where one begins, and the number of the token behind its SELECT.
-fn semi_key(alloc: Global, tokens: &[Tok], at: usize) -> Result<Option<(ColumnRef, usize)>, Memory>
+fn semi_key(
+    alloc: Global,
+    tokens: &[Terminal],
+    at: usize,
+) -> Result<Option<(ColumnRef, usize)>, Memory>
     ensures { (h : Head) → IfOk result (LeadsTo tokens.now h at) }
 {
     let Some(first) = name_there(tokens, at) else {
@@ -133,7 +137,7 @@ fn inner_place(head: Head, key: ColumnRef) -> HeadPlace
 /// The head of the semi-join that begins behind a head's WHERE, or else that head.
 pub fn semi_join(
     alloc: Global,
-    tokens: &[Tok],
+    tokens: &[Terminal],
     head: Head,
     at: usize,
 ) -> Result<(Head, usize), ParseError>

@@ -6,21 +6,21 @@ ghost use Rattle.ch_sql_grammar.specs.TailSteps.{on_mark, step_of, settled_of, t
 
 use ch_cells::{Bytes, Listed, Memory};
 use ch_sql_grammar::{
-    Agg, ColumnRef, Having, Mark, SkyDim, Tail, TailPlace, TailTaker, Tok, is_mark,
+    Agg, ColumnRef, Having, Mark, SkyDim, Tail, TailPlace, TailTaker, Terminal, is_mark,
 };
 use std::alloc::Global;
 
-fn copied_name(alloc: Global, token: &Tok) -> Result<Option<Bytes>, Memory>
+fn copied_name(alloc: Global, token: &Terminal) -> Result<Option<Bytes>, Memory>
     ensures { IfOk result (λ o. o ≡ name_in token.now) }
 {
     match token {
-        Tok::Name(name) => Ok(Some(Bytes::from_slice(alloc, name.as_slice())?)),
+        Terminal::Name(name) => Ok(Some(Bytes::from_slice(alloc, name.as_slice())?)),
         _ => Ok(None),
     }
 }
 
 /// The place behind a token that must be this mark.
-fn on(token: &Tok, mark: Mark, next: TailPlace) -> Option<TailPlace>
+fn on(token: &Terminal, mark: Mark, next: TailPlace) -> Option<TailPlace>
     ensures { result ≡ on_mark mark token.now next }
 {
     if is_mark(mark, token) {
@@ -47,7 +47,7 @@ fn taken(taker: TailTaker, col: ColumnRef) -> Result<TailPlace, Memory>
     }
 }
 
-fn start_step(begins: bool, token: &Tok) -> Option<TailPlace>
+fn start_step(begins: bool, token: &Terminal) -> Option<TailPlace>
     ensures { result ≡ start_step_of begins token.now }
 {
     if is_mark(Mark::Semicolon, token) {
@@ -65,7 +65,7 @@ fn start_step(begins: bool, token: &Tok) -> Option<TailPlace>
     None
 }
 
-fn direction_step(by: ColumnRef, token: &Tok) -> Option<TailPlace>
+fn direction_step(by: ColumnRef, token: &Terminal) -> Option<TailPlace>
     ensures { result ≡ direction_step_of by token.now }
 {
     if is_mark(Mark::Asc, token) {
@@ -77,7 +77,7 @@ fn direction_step(by: ColumnRef, token: &Tok) -> Option<TailPlace>
     on(token, Mark::Limit, TailPlace::LimitNumber(by, false))
 }
 
-fn keys_step(keys: Listed<ColumnRef>, token: &Tok) -> Option<TailPlace>
+fn keys_step(keys: Listed<ColumnRef>, token: &Terminal) -> Option<TailPlace>
     ensures { result ≡ keys_step_of keys token.now }
 {
     if is_mark(Mark::Comma, token) {
@@ -93,7 +93,7 @@ fn keys_step(keys: Listed<ColumnRef>, token: &Tok) -> Option<TailPlace>
     )
 }
 
-fn having_step(keys: Listed<ColumnRef>, token: &Tok) -> Option<TailPlace>
+fn having_step(keys: Listed<ColumnRef>, token: &Terminal) -> Option<TailPlace>
     ensures { result ≡ having_step_of keys token.now }
 {
     if is_mark(Mark::Sum, token) {
@@ -102,7 +102,11 @@ fn having_step(keys: Listed<ColumnRef>, token: &Tok) -> Option<TailPlace>
     on(token, Mark::Count, TailPlace::CountOpen(keys))
 }
 
-fn dim_step(dims: Listed<SkyDim>, col: ColumnRef, token: &Tok) -> Result<Option<TailPlace>, Memory>
+fn dim_step(
+    dims: Listed<SkyDim>,
+    col: ColumnRef,
+    token: &Terminal,
+) -> Result<Option<TailPlace>, Memory>
     ensures { IfOk result (λ o. o ≡ dim_step_of dims col token.now) }
 {
     let max = is_mark(Mark::Max, token);
@@ -114,7 +118,7 @@ fn dim_step(dims: Listed<SkyDim>, col: ColumnRef, token: &Tok) -> Result<Option<
     Ok(Some(TailPlace::Dims(dims)))
 }
 
-fn dims_step(dims: Listed<SkyDim>, token: &Tok) -> Option<TailPlace>
+fn dims_step(dims: Listed<SkyDim>, token: &Terminal) -> Option<TailPlace>
     ensures { result ≡ dims_step_of dims token.now }
 {
     if is_mark(Mark::Comma, token) {
@@ -128,7 +132,7 @@ fn dims_step(dims: Listed<SkyDim>, token: &Tok) -> Option<TailPlace>
 }
 
 /// Where a column comes.
-fn take_step(alloc: Global, taker: TailTaker, token: &Tok) -> Result<Option<TailPlace>, Memory>
+fn take_step(alloc: Global, taker: TailTaker, token: &Terminal) -> Result<Option<TailPlace>, Memory>
     ensures { IfOk result (λ o. o ≡ name_step_of (place.Taking taker) token.now) }
 {
     match copied_name(alloc, token) {
@@ -160,7 +164,7 @@ fn dot_step(
     alloc: Global,
     taker: TailTaker,
     table: Bytes,
-    token: &Tok,
+    token: &Terminal,
 ) -> Result<Option<TailPlace>, Memory>
     ensures { IfOk result (λ o. o ≡ name_step_of (place.Dot taker table) token.now) }
 {
@@ -178,11 +182,11 @@ fn dot_step(
 }
 
 /// Behind LIMIT.
-fn limit_step(by: ColumnRef, descending: bool, token: &Tok) -> Option<TailPlace>
+fn limit_step(by: ColumnRef, descending: bool, token: &Terminal) -> Option<TailPlace>
     ensures { result ≡ number_step_of (place.LimitNumber by descending) token.now }
 {
     match token {
-        Tok::Number(limit) => Some(TailPlace::Whole(Tail::Top {
+        Terminal::Number(limit) => Some(TailPlace::Whole(Tail::Top {
             by,
             descending,
             limit: *limit,
@@ -192,11 +196,11 @@ fn limit_step(by: ColumnRef, descending: bool, token: &Tok) -> Option<TailPlace>
 }
 
 /// Behind the `>` of HAVING.
-fn above_step(keys: Listed<ColumnRef>, agg: Agg, token: &Tok) -> Option<TailPlace>
+fn above_step(keys: Listed<ColumnRef>, agg: Agg, token: &Terminal) -> Option<TailPlace>
     ensures { result ≡ number_step_of (place.AboveNumber keys agg) token.now }
 {
     match token {
-        Tok::Number(above) => Some(TailPlace::Whole(Tail::Group {
+        Terminal::Number(above) => Some(TailPlace::Whole(Tail::Group {
             keys,
             having: Some(Having { agg, above: *above }),
         })),
@@ -205,7 +209,11 @@ fn above_step(keys: Listed<ColumnRef>, agg: Agg, token: &Tok) -> Option<TailPlac
 }
 
 /// Behind a column that has ended.
-fn ended_step(taker: TailTaker, col: ColumnRef, token: &Tok) -> Result<Option<TailPlace>, Memory>
+fn ended_step(
+    taker: TailTaker,
+    col: ColumnRef,
+    token: &Terminal,
+) -> Result<Option<TailPlace>, Memory>
     ensures { IfOk result (λ o. o ≡ settled_of (taken_by taker col) token.now) }
 {
     match taker {
@@ -231,7 +239,7 @@ fn bare(name: Bytes) -> ColumnRef
 }
 
 /// Behind the first name of a column.
-fn name_step(taker: TailTaker, name: Bytes, token: &Tok) -> Result<Option<TailPlace>, Memory>
+fn name_step(taker: TailTaker, name: Bytes, token: &Terminal) -> Result<Option<TailPlace>, Memory>
     ensures { IfOk result (λ o. o ≡ step_of (place.Name taker name) token.now) }
 {
     if is_mark(Mark::Dot, token) {
@@ -241,7 +249,7 @@ fn name_step(taker: TailTaker, name: Bytes, token: &Tok) -> Result<Option<TailPl
 }
 
 /// Behind GROUP.
-fn group_step(alloc: Global, token: &Tok) -> Option<TailPlace>
+fn group_step(alloc: Global, token: &Terminal) -> Option<TailPlace>
     ensures { result ≡ settled_of place.Group token.now }
 {
     on(
@@ -252,7 +260,7 @@ fn group_step(alloc: Global, token: &Tok) -> Option<TailPlace>
 }
 
 /// Behind SKYLINE.
-fn skyline_step(alloc: Global, token: &Tok) -> Option<TailPlace>
+fn skyline_step(alloc: Global, token: &Terminal) -> Option<TailPlace>
     ensures { result ≡ settled_of place.Skyline token.now }
 {
     on(
@@ -263,7 +271,11 @@ fn skyline_step(alloc: Global, token: &Tok) -> Option<TailPlace>
 }
 
 /// The place behind a token, if one may come at the place.
-pub fn tail_step(alloc: Global, place: TailPlace, token: &Tok) -> Result<Option<TailPlace>, Memory>
+pub fn tail_step(
+    alloc: Global,
+    place: TailPlace,
+    token: &Terminal,
+) -> Result<Option<TailPlace>, Memory>
     ensures { IfOk result (λ o. o ≡ step_of place token.now) }
 {
     match place {

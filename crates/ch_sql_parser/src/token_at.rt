@@ -3,11 +3,11 @@ ghost use Rattle.ch_sql_grammar.specs.Tokens.{cmp_in, marked, name_at, cmp_at, t
 
 use ch_cells::Bytes;
 use ch_pred::Cmp;
-use ch_sql_grammar::{Mark, Tok, is_mark, name_of};
+use ch_sql_grammar::{Mark, Terminal, is_mark, name_of};
 
 /// Whether the token is this mark.
 #[tactic(auto, unfolding(ch_sql_grammar::specs::Tokens::marked))]
-pub fn mark_at(tokens: &[Tok], at: usize, mark: Mark) -> bool
+pub fn mark_at(tokens: &[Terminal], at: usize, mark: Mark) -> bool
     ensures value { result ≡ marked mark tokens.now at }
     ensures within { IsTrue result → at < length tokens.now }
 {
@@ -19,7 +19,7 @@ pub fn mark_at(tokens: &[Tok], at: usize, mark: Mark) -> bool
 
 /// The name that the token is.
 #[tactic(auto, unfolding(ch_sql_grammar::specs::Tokens::name_at))]
-pub fn name_there(tokens: &[Tok], at: usize) -> Option<&Bytes>
+pub fn name_there(tokens: &[Terminal], at: usize) -> Option<&Bytes>
     ensures value { option_map (λ n. n.now) result ≡ name_at tokens.now at }
     ensures within { IsSome result → at < length tokens.now }
 {
@@ -29,23 +29,23 @@ pub fn name_there(tokens: &[Tok], at: usize) -> Option<&Bytes>
     }
 }
 
-fn cmp_of(token: &Tok) -> Option<Cmp>
+fn cmp_of(token: &Terminal) -> Option<Cmp>
     ensures { result ≡ cmp_in token.now }
 {
     match token {
-        Tok::Mark(Mark::Eq) => Some(Cmp::Eq),
-        Tok::Mark(Mark::Ne) => Some(Cmp::Ne),
-        Tok::Mark(Mark::Lt) => Some(Cmp::Lt),
-        Tok::Mark(Mark::Le) => Some(Cmp::Le),
-        Tok::Mark(Mark::Gt) => Some(Cmp::Gt),
-        Tok::Mark(Mark::Ge) => Some(Cmp::Ge),
+        Terminal::Mark(Mark::Eq) => Some(Cmp::Eq),
+        Terminal::Mark(Mark::Ne) => Some(Cmp::Ne),
+        Terminal::Mark(Mark::Lt) => Some(Cmp::Lt),
+        Terminal::Mark(Mark::Le) => Some(Cmp::Le),
+        Terminal::Mark(Mark::Gt) => Some(Cmp::Gt),
+        Terminal::Mark(Mark::Ge) => Some(Cmp::Ge),
         _ => None,
     }
 }
 
 /// The comparison that the token is.
 #[tactic(auto, unfolding(ch_sql_grammar::specs::Tokens::cmp_at))]
-pub fn cmp_there(tokens: &[Tok], at: usize) -> Option<Cmp>
+pub fn cmp_there(tokens: &[Terminal], at: usize) -> Option<Cmp>
     ensures value { result ≡ cmp_at tokens.now at }
     ensures within { IsSome result → at < length tokens.now }
 {
@@ -57,12 +57,12 @@ pub fn cmp_there(tokens: &[Tok], at: usize) -> Option<Cmp>
 
 /// The text that the token is.
 #[tactic(auto, unfolding(ch_sql_grammar::specs::Tokens::text_at))]
-pub fn text_there(tokens: &[Tok], at: usize) -> Option<&Bytes>
+pub fn text_there(tokens: &[Terminal], at: usize) -> Option<&Bytes>
     ensures value { option_map (λ n. n.now) result ≡ text_at tokens.now at }
     ensures within { IsSome result → at < length tokens.now }
 {
     match tokens.get(at) {
-        Some(Tok::Text(text)) => Some(text),
+        Some(Terminal::Text(text)) => Some(text),
         _ => None,
     }
 }

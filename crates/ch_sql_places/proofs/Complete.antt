@@ -1,9 +1,9 @@
 -- Each place can be completed.
 use Rattle.std.proofs.Common.{◌≡◌, ℕ, true, false, if◌then◌else◌, List, [], ◌∷◌, ◌++◌, Option, Some, None, option_and_then, refl, sym, ap, ◌∙◌, append_assoc, append-nil}
-use Rattle.ch_sql_grammar.specs.declared.tok.Mark.{Mark}
-use Rattle.ch_sql_grammar.specs.declared.tok.Mark.TheVariants as mark
-use Rattle.ch_sql_grammar.specs.declared.tok.Tok.{Tok}
-use Rattle.ch_sql_grammar.specs.declared.tok.Tok.TheVariants as tok
+use Rattle.ch_sql_grammar.specs.declared.terminal.Mark.{Mark}
+use Rattle.ch_sql_grammar.specs.declared.terminal.Mark.TheVariants as mark
+use Rattle.ch_sql_grammar.specs.declared.terminal.Terminal.{Terminal}
+use Rattle.ch_sql_grammar.specs.declared.terminal.Terminal.TheVariants as terminal
 use Rattle.ch_sql_grammar.specs.declared.query.ColumnRef.{ColumnRef}
 use Rattle.ch_pred.specs.declared.pred.Cmp.{Cmp}
 use Rattle.ch_pred.specs.declared.pred.Cmp.TheVariants as cmp
@@ -30,11 +30,11 @@ abbrev pub bare : List ℕ → ColumnRef
 bare n = record { table = None; name = n }
 
 -- no dot comes
-abbrev pub NoDot : List Tok → Type 0
+abbrev pub NoDot : List Terminal → Type 0
 NoDot [] = Unit {0}
 NoDot (t ∷ ts) = has_mark mark.Dot t ≡ false
 
-pub step_have : (around : Around) (p : Plain) (t : Tok) → step (have p around) t ≡ step_settled (have p around) t
+pub step_have : (around : Around) (p : Plain) (t : Terminal) → step (have p around) t ≡ step_settled (have p around) t
 step_have (Member conjs negs level) p t = refl
 step_have (Negated around) p t = step_have around (Not p) t
 
@@ -42,7 +42,7 @@ pub finish_have : (around : Around) (p : Plain) → finish (have p around) ≡ f
 finish_have (Member conjs negs level) p = refl
 finish_have (Negated around) p = finish_have around (Not p)
 
-pub step_took : (taker : Taker) (col : ColumnRef) (t : Tok) → step (took taker col) t ≡ step_settled (took taker col) t
+pub step_took : (taker : Taker) (col : ColumnRef) (t : Terminal) → step (took taker col) t ≡ step_settled (took taker col) t
 step_took (First around) col t = refl
 step_took (Second around left c) col t = step_have around _ t
 step_took (Leading h) col t = refl
@@ -52,14 +52,14 @@ finish_took (First around) col = refl
 finish_took (Second around left c) col = finish_have around _
 finish_took (Leading h) col = refl
 
-pub answer_name : (taker : Taker) (n : List ℕ) (ts : List Tok) → NoDot ts → answer (Name taker n) ts ≡ answer (took taker (bare n)) ts
+pub answer_name : (taker : Taker) (n : List ℕ) (ts : List Terminal) → NoDot ts → answer (Name taker n) ts ≡ answer (took taker (bare n)) ts
 answer_name taker n [] h = sym (finish_took taker (bare n))
 answer_name taker n (t ∷ ts) h = ap (λ o. option_and_then (λ q. answer q ts) o)
     (ap (λ b. if b then Some (Dot taker n) else step_settled (took taker (bare n)) t) h ∙ sym (step_took taker (bare n) t))
 
 -- every place can be completed
 
-abbrev pub Answers : Place → List Tok → Type 0
+abbrev pub Answers : Place → List Terminal → Type 0
 Answers place ts = (tree : Select) × (answer place ts ≡ Some tree)
 
 mutual

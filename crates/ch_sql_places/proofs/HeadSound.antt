@@ -1,9 +1,9 @@
 -- The places of a head: what a token leads to stands for the tokens.
 use Rattle.std.proofs.Common.{◌≡◌, ℕ, Bool, true, false, ◌&&◌, List, [], ◌∷◌, ◌++◌, Option, Some, None, refl, sym, ap, ap₂, ◌∙◌, subst, IfSome}
-use Rattle.ch_sql_grammar.specs.declared.tok.Mark.{Mark}
-use Rattle.ch_sql_grammar.specs.declared.tok.Mark.TheVariants as mark
-use Rattle.ch_sql_grammar.specs.declared.tok.Tok.{Tok}
-use Rattle.ch_sql_grammar.specs.declared.tok.Tok.TheVariants as tok
+use Rattle.ch_sql_grammar.specs.declared.terminal.Mark.{Mark}
+use Rattle.ch_sql_grammar.specs.declared.terminal.Mark.TheVariants as mark
+use Rattle.ch_sql_grammar.specs.declared.terminal.Terminal.{Terminal}
+use Rattle.ch_sql_grammar.specs.declared.terminal.Terminal.TheVariants as terminal
 use Rattle.ch_sql_grammar.specs.declared.query.ColumnRef.{ColumnRef}
 use Rattle.ch_sql_grammar.specs.Tree.{bare_col, col_of}
 use Rattle.ch_sql_grammar.specs.Tokens.{has_mark, name_in}
@@ -34,15 +34,15 @@ fit_more true items x h f = list_all-append is_plain_item items (x ∷ []) ∙ a
 fit_more false items x h f = tt
 
 -- where a step of a head goes
-abbrev pub StepLeads : List Tok → Tok → HeadStep → Type 0
+abbrev pub StepLeads : List Terminal → Terminal → HeadStep → Type 0
 StepLeads x t (headstep.On next) = HeadLeads next (more x t)
 StepLeads x t (headstep.Done h) = IsHead h x
 StepLeads x t headstep.Stuck = Unit {0}
 
-pub head_must : (x : List Tok) (t : Tok) (m : Mark) (next : HeadPlace) → (t ≡ tok.Mark m → HeadLeads next (more x t)) → StepLeads x t (heads.on_mark m t next)
+pub head_must : (x : List Terminal) (t : Terminal) (m : Mark) (next : HeadPlace) → (t ≡ terminal.Mark m → HeadLeads next (more x t)) → StepLeads x t (heads.on_mark m t next)
 head_must x t m next f = each_way (StepLeads x t) (has_mark m t) (headstep.On next) headstep.Stuck (λ h. f (mark_is m t h)) tt
 
-pub join_fits : (items : List Item) (left right : List ℕ) (first_on second_on : ColumnRef) (y x : List Tok) → TableLeads false items left y → x ≡ ((joined_on y right ++ col_tokens first_on) ++ one mark.Eq) ++ col_tokens second_on →
+pub join_fits : (items : List Item) (left right : List ℕ) (first_on second_on : ColumnRef) (y x : List Terminal) → TableLeads false items left y → x ≡ ((joined_on y right ++ col_tokens first_on) ++ one mark.Eq) ++ col_tokens second_on →
     IsHead (join_head items left right first_on second_on) x
 join_fits items left right first_on second_on y x (z, (front, last, ie, fit, ze), ye) e = record {
   front = front;
@@ -50,8 +50,8 @@ join_fits items left right first_on second_on y x (z, (front, last, ie, fit, ze)
   items = ie;
   spelled = (
     refl,
-    e ∙ ap (λ k. ((joined_on k right ++ col_tokens first_on) ++ one mark.Eq) ++ col_tokens second_on) (ye ∙ ap (λ k. (k ++ one mark.From) ++ (tok.Name left ∷ [])) ze ∙ assoc_source (select_tokens false) (each item_tokens front) (item_tokens last) (tok.Mark mark.From) (tok.Name left))
-        ∙ assoc7 (one_tokens front last left) (one mark.Join) (tok.Name right ∷ []) (one mark.On) (col_tokens first_on) (one mark.Eq) (col_tokens second_on),
+    e ∙ ap (λ k. ((joined_on k right ++ col_tokens first_on) ++ one mark.Eq) ++ col_tokens second_on) (ye ∙ ap (λ k. (k ++ one mark.From) ++ (terminal.Name left ∷ [])) ze ∙ assoc_source (select_tokens false) (each item_tokens front) (item_tokens last) (terminal.Mark mark.From) (terminal.Name left))
+        ∙ assoc7 (one_tokens front last left) (one mark.Join) (terminal.Name right ∷ []) (one mark.On) (col_tokens first_on) (one mark.Eq) (col_tokens second_on),
   );
 }
 
@@ -63,59 +63,59 @@ pub fits_star : (d : Bool) → Fits d item.Star
 fits_star true = refl
 fits_star false = tt
 
-pub head_taken : (taker : HeadTaker) (col : ColumnRef) (y x : List Tok) → HeadBefore taker y → x ≡ y ++ col_tokens col → HeadLeads (heads.taken_by taker col) x
+pub head_taken : (taker : HeadTaker) (col : ColumnRef) (y x : List Terminal) → HeadBefore taker y → x ≡ y ++ col_tokens col → HeadLeads (heads.taken_by taker col) x
 head_taken (headtaker.Item d items) col y x (fit, k) e = (items, item.Column col, refl, fit_more d items (item.Column col) fit (fits_column d col), e ∙ ap (λ z. z ++ col_tokens col) k)
 head_taken (headtaker.Extreme items max) col y x k e = e ∙ ap (λ z. z ++ col_tokens col) k
 head_taken (headtaker.FirstOn items left right) col y x (z, l, k) e = (z, l, e ∙ ap (λ z. z ++ col_tokens col) k)
 head_taken (headtaker.SecondOn items left right first_on) col y x (z, l, k) e = join_fits items left right first_on col z x l (e ∙ ap (λ z. z ++ col_tokens col) k)
 head_taken (headtaker.InnerKey items outer key) col y x l e = (y, l, e)
 
-pub head_named : (at : HeadPlace) (x : List Tok) (t : Tok) (n : List ℕ) → t ≡ tok.Name n → HeadLeads at x → StepLeads x t (heads.named_step at n)
+pub head_named : (at : HeadPlace) (x : List Terminal) (t : Terminal) (n : List ℕ) → t ≡ terminal.Name n → HeadLeads at x → StepLeads x t (heads.named_step at n)
 head_named (head.Taking taker) x t n h l = (x, l, ap (more x) h)
-head_named (head.Dot taker table) x t n h (y, l, e) = head_taken taker (col_of table n) y (more x t) l (ap₂ more e h ∙ assoc4 y (tok.Name table ∷ []) (one mark.Dot) (tok.Name n ∷ []))
+head_named (head.Dot taker table) x t n h (y, l, e) = head_taken taker (col_of table n) y (more x t) l (ap₂ more e h ∙ assoc4 y (terminal.Name table ∷ []) (one mark.Dot) (terminal.Name n ∷ []))
 head_named (head.From d items) x t n h (y, l, e) = (y, l, ap₂ more e h)
 head_named (head.JoinTable items left) x t n h (y, l, e) = (y, l, ap₂ more e h)
 head_named (head.InnerTable items outer key inner_key) x t n h (y, l, e) = (y, l, ap₂ more e h)
 head_named at x t n h l = tt
 
-pub head_name : (at : HeadPlace) (x : List Tok) (t : Tok) (o : Option (List ℕ)) → name_in t ≡ o → HeadLeads at x → StepLeads x t (heads.name_given at o)
+pub head_name : (at : HeadPlace) (x : List Terminal) (t : Terminal) (o : Option (List ℕ)) → name_in t ≡ o → HeadLeads at x → StepLeads x t (heads.name_given at o)
 head_name at x t None h l = tt
 head_name at x t (Some n) h l = head_named at x t n (name_is t n h) l
 
-pub item_named : (d : Bool) (items : List Item) (x : List Tok) (t : Tok) (o : Option (List ℕ)) → name_in t ≡ o → ItemsLead d items x → StepLeads x t (heads.on_name o (λ n. head.Name (headtaker.Item d items) n))
+pub item_named : (d : Bool) (items : List Item) (x : List Terminal) (t : Terminal) (o : Option (List ℕ)) → name_in t ≡ o → ItemsLead d items x → StepLeads x t (heads.on_name o (λ n. head.Name (headtaker.Item d items) n))
 item_named d items x t None h l = tt
 item_named d items x t (Some n) h l = (x, l, ap (more x) (name_is t n h))
 
 -- MAX and MIN stand where the items need not be plain
-pub extreme_leads : (d : Bool) (items : List Item) (x : List Tok) (t : Tok) (max : Bool) → (has_mark (dim_mark max) t && negated d) ≡ true → ItemsLead d items x → HeadLeads (head.Extreme items max) (more x t)
+pub extreme_leads : (d : Bool) (items : List Item) (x : List Terminal) (t : Terminal) (max : Bool) → (has_mark (dim_mark max) t && negated d) ≡ true → ItemsLead d items x → HeadLeads (head.Extreme items max) (more x t)
 extreme_leads d items x t max h (fit, e) =
     let f : d ≡ false = not_true d (and_right (has_mark (dim_mark max) t) (negated d) h) in
     ap₂ more (e ∙ ap (λ z. select_tokens z ++ each item_tokens items) f) (mark_is (dim_mark max) t (and_left (has_mark (dim_mark max) t) (negated d) h))
 
-pub items_step : (d : Bool) (items : List Item) (x : List Tok) (t : Tok) → ItemsLead d items x → StepLeads x t (heads.items_step_of d items t)
+pub items_step : (d : Bool) (items : List Item) (x : List Terminal) (t : Terminal) → ItemsLead d items x → StepLeads x t (heads.items_step_of d items t)
 items_step d items x t (fit, e) =
     each_way (StepLeads x t) (has_mark mark.Star t) (headstep.On (head.Listing d (items ++ (item.Star ∷ [])))) _ (λ h. (items, item.Star, refl, fit_more d items item.Star fit (fits_star d), ap₂ more e (mark_is mark.Star t h)))
     (each_way (StepLeads x t) (has_mark mark.Max t && negated d) (headstep.On (head.Extreme items true)) _ (λ h. extreme_leads d items x t true h (fit, e))
     (each_way (StepLeads x t) (has_mark mark.Min t && negated d) (headstep.On (head.Extreme items false)) _ (λ h. extreme_leads d items x t false h (fit, e))
     (item_named d items x t (name_in t) refl (fit, e))))
 
-pub closing_leads : (items : List Item) (max : Bool) (col : ColumnRef) (x : List Tok) (t : Tok) → x ≡ extreme_open items max ++ col_tokens col → t ≡ tok.Mark mark.RightParen →
+pub closing_leads : (items : List Item) (max : Bool) (col : ColumnRef) (x : List Terminal) (t : Terminal) → x ≡ extreme_open items max ++ col_tokens col → t ≡ terminal.Mark mark.RightParen →
     HeadLeads (head.Listing false (items ++ (heads.extreme max col ∷ []))) (more x t)
 closing_leads items true col x t e h = (items, item.Max col, refl, tt, ap₂ more e h ∙ assoc5 (select_tokens false ++ each item_tokens items) (one mark.Max) (one mark.LeftParen) (col_tokens col) (one mark.RightParen))
 closing_leads items false col x t e h = (items, item.Min col, refl, tt, ap₂ more e h ∙ assoc5 (select_tokens false ++ each item_tokens items) (one mark.Min) (one mark.LeftParen) (col_tokens col) (one mark.RightParen))
 
-pub table_head : (d : Bool) (items : List Item) (table : List ℕ) (front : List Item) (last : Item) (x : List Tok) → items ≡ front ++ (last ∷ []) → FitAll d items →
-    x ≡ (((select_tokens d ++ each item_tokens front) ++ item_tokens last) ++ one mark.From) ++ (tok.Name table ∷ []) → HeadedBy (source.One table) d front last x
-table_head true items table front last x ie fit e = (ap (λ z. list_all is_plain_item z) (sym ie) ∙ fit, e ∙ assoc_source (select_tokens true) (each item_tokens front) (item_tokens last) (tok.Mark mark.From) (tok.Name table))
-table_head false items table front last x ie fit e = e ∙ assoc_source (select_tokens false) (each item_tokens front) (item_tokens last) (tok.Mark mark.From) (tok.Name table)
+pub table_head : (d : Bool) (items : List Item) (table : List ℕ) (front : List Item) (last : Item) (x : List Terminal) → items ≡ front ++ (last ∷ []) → FitAll d items →
+    x ≡ (((select_tokens d ++ each item_tokens front) ++ item_tokens last) ++ one mark.From) ++ (terminal.Name table ∷ []) → HeadedBy (source.One table) d front last x
+table_head true items table front last x ie fit e = (ap (λ z. list_all is_plain_item z) (sym ie) ∙ fit, e ∙ assoc_source (select_tokens true) (each item_tokens front) (item_tokens last) (terminal.Mark mark.From) (terminal.Name table))
+table_head false items table front last x ie fit e = e ∙ assoc_source (select_tokens false) (each item_tokens front) (item_tokens last) (terminal.Mark mark.From) (terminal.Name table)
 
-pub table_done : (d : Bool) (items : List Item) (table : List ℕ) (x : List Tok) → TableLeads d items table x → IsHead (one_head d items table) x
-table_done d items table x (y, (front, last, ie, fit, ye), e) = record { front = front; last = last; items = ie; spelled = table_head d items table front last x ie fit (e ∙ ap (λ z. (z ++ one mark.From) ++ (tok.Name table ∷ [])) ye) }
+pub table_done : (d : Bool) (items : List Item) (table : List ℕ) (x : List Terminal) → TableLeads d items table x → IsHead (one_head d items table) x
+table_done d items table x (y, (front, last, ie, fit, ye), e) = record { front = front; last = last; items = ie; spelled = table_head d items table front last x ie fit (e ∙ ap (λ z. (z ++ one mark.From) ++ (terminal.Name table ∷ [])) ye) }
 
-pub table_joins : (d : Bool) (items : List Item) (table : List ℕ) (x : List Tok) → d ≡ false → TableLeads d items table x → TableLeads false items table x
+pub table_joins : (d : Bool) (items : List Item) (table : List ℕ) (x : List Terminal) → d ≡ false → TableLeads d items table x → TableLeads false items table x
 table_joins d items table x f l = subst (λ z. TableLeads z items table x) f l
 
-pub semi_fits : (items : List Item) (outer : List ℕ) (key inner_key : ColumnRef) (inner : List ℕ) (y x : List Tok) → InnerLeads items outer key y → x ≡ (((y ++ col_tokens inner_key) ++ one mark.From) ++ (tok.Name inner ∷ [])) ++ one mark.RightParen →
+pub semi_fits : (items : List Item) (outer : List ℕ) (key inner_key : ColumnRef) (inner : List ℕ) (y x : List Terminal) → InnerLeads items outer key y → x ≡ (((y ++ col_tokens inner_key) ++ one mark.From) ++ (terminal.Name inner ∷ [])) ++ one mark.RightParen →
     IsHead (semi_head items outer inner key inner_key) x
 semi_fits items outer key inner_key inner y x (front, last, ie, plain, ye) e = record {
   front = front;
@@ -124,13 +124,13 @@ semi_fits items outer key inner_key inner y x (front, last, ie, plain, ye) e = r
   spelled = (
     refl,
     plain,
-    e ∙ ap (λ k. (((k ++ col_tokens inner_key) ++ one mark.From) ++ (tok.Name inner ∷ [])) ++ one mark.RightParen) ye
-        ∙ assoc5 (((((one_tokens front last outer ++ one mark.Where) ++ col_tokens key) ++ one mark.In) ++ one mark.LeftParen) ++ one mark.Select) (col_tokens inner_key) (one mark.From) (tok.Name inner ∷ []) (one mark.RightParen)
-        ∙ assoc7 (one_tokens front last outer) (one mark.Where) (col_tokens key) (one mark.In) (one mark.LeftParen) (one mark.Select) (col_tokens inner_key ++ (tok.Mark mark.From ∷ tok.Name inner ∷ one mark.RightParen)),
+    e ∙ ap (λ k. (((k ++ col_tokens inner_key) ++ one mark.From) ++ (terminal.Name inner ∷ [])) ++ one mark.RightParen) ye
+        ∙ assoc5 (((((one_tokens front last outer ++ one mark.Where) ++ col_tokens key) ++ one mark.In) ++ one mark.LeftParen) ++ one mark.Select) (col_tokens inner_key) (one mark.From) (terminal.Name inner ∷ []) (one mark.RightParen)
+        ∙ assoc7 (one_tokens front last outer) (one mark.Where) (col_tokens key) (one mark.In) (one mark.LeftParen) (one mark.Select) (col_tokens inner_key ++ (terminal.Mark mark.From ∷ terminal.Name inner ∷ one mark.RightParen)),
   );
 }
 
-pub head_marked : (at : HeadPlace) (x : List Tok) (t : Tok) → HeadLeads at x → StepLeads x t (heads.mark_step_of at t)
+pub head_marked : (at : HeadPlace) (x : List Terminal) (t : Terminal) → HeadLeads at x → StepLeads x t (heads.mark_step_of at t)
 head_marked head.Start x t e = head_must x t mark.Select head.Select (λ h. ap₂ more e h)
 head_marked (head.Extreme items max) x t e = head_must x t mark.LeftParen (head.Taking (headtaker.Extreme items max)) (λ h. ap₂ more e h)
 head_marked (head.On items left right) x t (y, l, e) = head_must x t mark.On (head.Taking (headtaker.FirstOn items left right)) (λ h. (y, l, ap₂ more e h))
@@ -139,7 +139,7 @@ head_marked (head.InnerFrom items outer key inner_key) x t (y, l, e) = head_must
 head_marked (head.InnerClose items outer key inner_key inner) x t (y, l, e) = head_must x t mark.RightParen (head.Whole (semi_head items outer inner key inner_key)) (λ h. semi_fits items outer key inner_key inner y (more x t) l (ap₂ more e h))
 head_marked at x t l = tt
 
-pub head_onward : (at : HeadPlace) (x : List Tok) (t : Tok) → HeadLeads at x → StepLeads x t (heads.settled_of at t)
+pub head_onward : (at : HeadPlace) (x : List Terminal) (t : Terminal) → HeadLeads at x → StepLeads x t (heads.settled_of at t)
 head_onward head.Select x t e = each_way (StepLeads x t) (has_mark mark.Distinct t) (headstep.On (head.Items true [])) _ (λ h. (refl, ap₂ more e (mark_is mark.Distinct t h))) (items_step false [] x t (tt, e))
 head_onward (head.Items d items) x t l = items_step d items x t l
 head_onward (head.Closing items max col) x t e = head_must x t mark.RightParen (head.Listing false (items ++ (heads.extreme max col ∷ []))) (λ h. closing_leads items max col x t e h)
@@ -159,16 +159,16 @@ head_onward (head.JoinTable items left) x t l = head_name (head.JoinTable items 
 head_onward (head.InnerTable items outer key inner_key) x t l = head_name (head.InnerTable items outer key inner_key) x t (name_in t) refl l
 head_onward at x t l = head_marked at x t l
 
-pub head_steps : (at : HeadPlace) (x : List Tok) (t : Tok) → HeadLeads at x → StepLeads x t (heads.step_of at t)
+pub head_steps : (at : HeadPlace) (x : List Terminal) (t : Terminal) → HeadLeads at x → StepLeads x t (heads.step_of at t)
 head_steps (head.Name taker n) x t (y, l, e) = each_way (StepLeads x t) (has_mark mark.Dot t) (headstep.On (head.Dot taker n)) _ (λ h. (y, l, ap₂ more e (mark_is mark.Dot t h)))
     (head_onward (heads.taken_by taker (bare_col n)) x t (head_taken taker (bare_col n) y x l e))
 head_steps at x t l = head_onward at x t l
 
-pub head_settled_ends : (at : HeadPlace) (x : List Tok) → HeadLeads at x → IfSome (heads.settled_end at) (λ h. IsHead h x)
+pub head_settled_ends : (at : HeadPlace) (x : List Terminal) → HeadLeads at x → IfSome (heads.settled_end at) (λ h. IsHead h x)
 head_settled_ends (head.Table d items table) x l = table_done d items table x l
 head_settled_ends (head.Whole h) x l = l
 head_settled_ends at x l = tt
 
-pub head_ends : (at : HeadPlace) (x : List Tok) → HeadLeads at x → IfSome (heads.end_of at) (λ h. IsHead h x)
+pub head_ends : (at : HeadPlace) (x : List Terminal) → HeadLeads at x → IfSome (heads.end_of at) (λ h. IsHead h x)
 head_ends (head.Name taker n) x (y, l, e) = head_settled_ends (heads.taken_by taker (bare_col n)) x (head_taken taker (bare_col n) y x l e)
 head_ends at x l = head_settled_ends at x l

@@ -1,10 +1,10 @@
 -- The tokens that lead to a place, and what a test says of a token.
 use Rattle.std.proofs.Common.{◌≡◌, ℕ, ◌⊎◌, Bool, true, false, if◌then◌else◌, List, [], ◌∷◌, ◌++◌, Option, Some, None, option_map, refl, sym, ap, ◌∙◌, append_assoc, subst, arith, get_or, IfSome}
 use Rattle.std.proofs.lemmas.Bool.Decides.{nat_tests}
-use Rattle.ch_sql_grammar.specs.declared.tok.Mark.{Mark}
-use Rattle.ch_sql_grammar.specs.declared.tok.Mark.TheVariants as mark
-use Rattle.ch_sql_grammar.specs.declared.tok.Tok.{Tok}
-use Rattle.ch_sql_grammar.specs.declared.tok.Tok.TheVariants as tok
+use Rattle.ch_sql_grammar.specs.declared.terminal.Mark.{Mark}
+use Rattle.ch_sql_grammar.specs.declared.terminal.Mark.TheVariants as mark
+use Rattle.ch_sql_grammar.specs.declared.terminal.Terminal.{Terminal}
+use Rattle.ch_sql_grammar.specs.declared.terminal.Terminal.TheVariants as terminal
 use Rattle.ch_sql_grammar.specs.declared.query.ColumnRef.{ColumnRef}
 use Rattle.ch_pred.specs.declared.pred.Cmp.{Cmp}
 use Rattle.ch_pred.specs.declared.pred.Literal.{Literal}
@@ -48,16 +48,16 @@ PredFits (or p c) b = b ≡ true
 
 -- the tokens of a head
 
-abbrev pub one : Mark → List Tok
-one m = tok.Mark m ∷ []
+abbrev pub one : Mark → List Terminal
+one m = terminal.Mark m ∷ []
 
-abbrev pub HeadedBy : Source → Bool → List Item → Item → List Tok → Type 0
+abbrev pub HeadedBy : Source → Bool → List Item → Item → List Terminal → Type 0
 HeadedBy (source.One table) true front last toks = ArePlain front last × (toks ≡ distinct_tokens front last table)
 HeadedBy (source.One table) false front last toks = toks ≡ one_tokens front last table
 HeadedBy (source.Join left right first_on second_on) d front last toks = (d ≡ false) × (toks ≡ join_tokens front last left right first_on second_on)
 HeadedBy (source.Semi outer inner key inner_key) d front last toks = (d ≡ false) × ArePlain front last × (toks ≡ semi_tokens front last outer key inner_key inner)
 
-pub record IsHead (h : Head) (toks : List Tok) : Type 0 where
+pub record IsHead (h : Head) (toks : List Terminal) : Type 0 where
   pub front : List Item
   pub last : Item
   pub items : h.items ≡ front ++ (last ∷ [])
@@ -69,152 +69,152 @@ opening true = mark.And
 opening false = mark.Where
 
 abbrev mutual
-  pub IsAround : Around → List Tok → Type 0
-  IsAround (Member conjs negs level) toks = (f : List Tok) × (os : Option Pred) × (ns : Option Conj) × IsLevel level f × (conjs ≡ ors_trees os) × (negs ≡ ands_trees ns) × (toks ≡ (f ++ ors_tokens os) ++ ands_tokens ns) × OrsFit os (takes_or level)
-  IsAround (Negated around) toks = (f : List Tok) × IsAround around f × (toks ≡ f ++ (tok.Mark mark.Not ∷ []))
+  pub IsAround : Around → List Terminal → Type 0
+  IsAround (Member conjs negs level) toks = (f : List Terminal) × (os : Option Pred) × (ns : Option Conj) × IsLevel level f × (conjs ≡ ors_trees os) × (negs ≡ ands_trees ns) × (toks ≡ (f ++ ors_tokens os) ++ ands_tokens ns) × OrsFit os (takes_or level)
+  IsAround (Negated around) toks = (f : List Terminal) × IsAround around f × (toks ≡ f ++ (terminal.Mark mark.Not ∷ []))
 
-  pub IsLevel : Level → List Tok → Type 0
-  IsLevel (Whole h) toks = (f : List Tok) × IsHead h f × (toks ≡ f ++ (tok.Mark (opening (is_semi h.source)) ∷ []))
-  IsLevel (Group around) toks = (f : List Tok) × IsAround around f × (toks ≡ f ++ (tok.Mark mark.LeftParen ∷ []))
+  pub IsLevel : Level → List Terminal → Type 0
+  IsLevel (Whole h) toks = (f : List Terminal) × IsHead h f × (toks ≡ f ++ (terminal.Mark (opening (is_semi h.source)) ∷ []))
+  IsLevel (Group around) toks = (f : List Terminal) × IsAround around f × (toks ≡ f ++ (terminal.Mark mark.LeftParen ∷ []))
 
 -- the tokens are those around an atom, and then these of the atom
-abbrev pub After : Around → List Tok → List Tok → Type 0
-After around toks xs = (f : List Tok) × IsAround around f × (toks ≡ f ++ xs)
+abbrev pub After : Around → List Terminal → List Terminal → Type 0
+After around toks xs = (f : List Terminal) × IsAround around f × (toks ≡ f ++ xs)
 
 -- the tokens of a place in a head
 
-abbrev pub select_tokens : Bool → List Tok
-select_tokens true = tok.Mark mark.Select ∷ tok.Mark mark.Distinct ∷ []
-select_tokens false = tok.Mark mark.Select ∷ []
+abbrev pub select_tokens : Bool → List Terminal
+select_tokens true = terminal.Mark mark.Select ∷ terminal.Mark mark.Distinct ∷ []
+select_tokens false = terminal.Mark mark.Select ∷ []
 
 abbrev pub extreme_mark : Bool → Mark
 extreme_mark max = dim_mark max
 
-abbrev pub ItemsLead : Bool → List Item → List Tok → Type 0
+abbrev pub ItemsLead : Bool → List Item → List Terminal → Type 0
 ItemsLead d items x = FitAll d items × (x ≡ select_tokens d ++ each item_tokens items)
 
-abbrev pub ListLeads : Bool → List Item → List Tok → Type 0
+abbrev pub ListLeads : Bool → List Item → List Terminal → Type 0
 ListLeads d items x = (front : List Item) × (last : Item) × (items ≡ front ++ (last ∷ [])) × FitAll d items × (x ≡ (select_tokens d ++ each item_tokens front) ++ item_tokens last)
 
-abbrev pub TableLeads : Bool → List Item → List ℕ → List Tok → Type 0
-TableLeads d items table x = (y : List Tok) × ListLeads d items y × (x ≡ (y ++ one mark.From) ++ (tok.Name table ∷ []))
+abbrev pub TableLeads : Bool → List Item → List ℕ → List Terminal → Type 0
+TableLeads d items table x = (y : List Terminal) × ListLeads d items y × (x ≡ (y ++ one mark.From) ++ (terminal.Name table ∷ []))
 
-abbrev pub extreme_open : List Item → Bool → List Tok
+abbrev pub extreme_open : List Item → Bool → List Terminal
 extreme_open items max = ((select_tokens false ++ each item_tokens items) ++ one (extreme_mark max)) ++ one mark.LeftParen
 
-abbrev pub joined_on : List Tok → List ℕ → List Tok
-joined_on y right = ((y ++ one mark.Join) ++ (tok.Name right ∷ [])) ++ one mark.On
+abbrev pub joined_on : List Terminal → List ℕ → List Terminal
+joined_on y right = ((y ++ one mark.Join) ++ (terminal.Name right ∷ [])) ++ one mark.On
 
 -- the tokens up to the inner key of a semi-join
-abbrev pub InnerLeads : List Item → List ℕ → ColumnRef → List Tok → Type 0
+abbrev pub InnerLeads : List Item → List ℕ → ColumnRef → List Terminal → Type 0
 InnerLeads items outer key x = (front : List Item) × (last : Item) × (items ≡ front ++ (last ∷ [])) × ArePlain front last
     × (x ≡ ((((one_tokens front last outer ++ one mark.Where) ++ col_tokens key) ++ one mark.In) ++ one mark.LeftParen) ++ one mark.Select)
 
-abbrev pub HeadBefore : HeadTaker → List Tok → Type 0
+abbrev pub HeadBefore : HeadTaker → List Terminal → Type 0
 HeadBefore (headtaker.Item d items) x = ItemsLead d items x
 HeadBefore (headtaker.Extreme items max) x = x ≡ extreme_open items max
-HeadBefore (headtaker.FirstOn items left right) x = (y : List Tok) × TableLeads false items left y × (x ≡ joined_on y right)
-HeadBefore (headtaker.SecondOn items left right first_on) x = (y : List Tok) × TableLeads false items left y × (x ≡ (joined_on y right ++ col_tokens first_on) ++ one mark.Eq)
+HeadBefore (headtaker.FirstOn items left right) x = (y : List Terminal) × TableLeads false items left y × (x ≡ joined_on y right)
+HeadBefore (headtaker.SecondOn items left right first_on) x = (y : List Terminal) × TableLeads false items left y × (x ≡ (joined_on y right ++ col_tokens first_on) ++ one mark.Eq)
 HeadBefore (headtaker.InnerKey items outer key) x = InnerLeads items outer key x
 
-abbrev pub HeadLeads : HeadPlace → List Tok → Type 0
+abbrev pub HeadLeads : HeadPlace → List Terminal → Type 0
 HeadLeads head.Start x = x ≡ []
 HeadLeads head.Select x = x ≡ one mark.Select
 HeadLeads (head.Items d items) x = ItemsLead d items x
 HeadLeads (head.Extreme items max) x = x ≡ (select_tokens false ++ each item_tokens items) ++ one (extreme_mark max)
 HeadLeads (head.Taking taker) x = HeadBefore taker x
-HeadLeads (head.Name taker n) x = (y : List Tok) × HeadBefore taker y × (x ≡ y ++ (tok.Name n ∷ []))
-HeadLeads (head.Dot taker n) x = (y : List Tok) × HeadBefore taker y × (x ≡ (y ++ (tok.Name n ∷ [])) ++ one mark.Dot)
+HeadLeads (head.Name taker n) x = (y : List Terminal) × HeadBefore taker y × (x ≡ y ++ (terminal.Name n ∷ []))
+HeadLeads (head.Dot taker n) x = (y : List Terminal) × HeadBefore taker y × (x ≡ (y ++ (terminal.Name n ∷ [])) ++ one mark.Dot)
 HeadLeads (head.Closing items max col) x = x ≡ extreme_open items max ++ col_tokens col
 HeadLeads (head.Listing d items) x = ListLeads d items x
-HeadLeads (head.From d items) x = (y : List Tok) × ListLeads d items y × (x ≡ y ++ one mark.From)
+HeadLeads (head.From d items) x = (y : List Terminal) × ListLeads d items y × (x ≡ y ++ one mark.From)
 HeadLeads (head.Table d items table) x = TableLeads d items table x
-HeadLeads (head.JoinTable items left) x = (y : List Tok) × TableLeads false items left y × (x ≡ y ++ one mark.Join)
-HeadLeads (head.On items left right) x = (y : List Tok) × TableLeads false items left y × (x ≡ (y ++ one mark.Join) ++ (tok.Name right ∷ []))
-HeadLeads (head.Equals items left right first_on) x = (y : List Tok) × TableLeads false items left y × (x ≡ joined_on y right ++ col_tokens first_on)
-HeadLeads (head.InnerFrom items outer key inner_key) x = (y : List Tok) × InnerLeads items outer key y × (x ≡ y ++ col_tokens inner_key)
-HeadLeads (head.InnerTable items outer key inner_key) x = (y : List Tok) × InnerLeads items outer key y × (x ≡ (y ++ col_tokens inner_key) ++ one mark.From)
-HeadLeads (head.InnerClose items outer key inner_key inner) x = (y : List Tok) × InnerLeads items outer key y × (x ≡ ((y ++ col_tokens inner_key) ++ one mark.From) ++ (tok.Name inner ∷ []))
+HeadLeads (head.JoinTable items left) x = (y : List Terminal) × TableLeads false items left y × (x ≡ y ++ one mark.Join)
+HeadLeads (head.On items left right) x = (y : List Terminal) × TableLeads false items left y × (x ≡ (y ++ one mark.Join) ++ (terminal.Name right ∷ []))
+HeadLeads (head.Equals items left right first_on) x = (y : List Terminal) × TableLeads false items left y × (x ≡ joined_on y right ++ col_tokens first_on)
+HeadLeads (head.InnerFrom items outer key inner_key) x = (y : List Terminal) × InnerLeads items outer key y × (x ≡ y ++ col_tokens inner_key)
+HeadLeads (head.InnerTable items outer key inner_key) x = (y : List Terminal) × InnerLeads items outer key y × (x ≡ (y ++ col_tokens inner_key) ++ one mark.From)
+HeadLeads (head.InnerClose items outer key inner_key inner) x = (y : List Terminal) × InnerLeads items outer key y × (x ≡ ((y ++ col_tokens inner_key) ++ one mark.From) ++ (terminal.Name inner ∷ []))
 HeadLeads (head.Whole h) x = IsHead h x
 
 -- the tokens of a place in a tail
 
-abbrev pub group_by : List Tok
+abbrev pub group_by : List Terminal
 group_by = one mark.Group ++ one mark.By
 
-abbrev pub skyline_of : List Tok
+abbrev pub skyline_of : List Terminal
 skyline_of = one mark.Skyline ++ one mark.Of
 
-abbrev pub order_by : List Tok
+abbrev pub order_by : List Terminal
 order_by = one mark.Order ++ one mark.By
 
-abbrev pub KeysLead : List ColumnRef → List Tok → Type 0
+abbrev pub KeysLead : List ColumnRef → List Terminal → Type 0
 KeysLead keys x = (front : List ColumnRef) × (last : ColumnRef) × (keys ≡ front ++ (last ∷ [])) × (x ≡ (group_by ++ each col_tokens front) ++ col_tokens last)
 
-abbrev pub TailBefore : TailTaker → List Tok → Type 0
+abbrev pub TailBefore : TailTaker → List Terminal → Type 0
 TailBefore tailtaker.By x = x ≡ order_by
 TailBefore (tailtaker.Key keys) x = x ≡ group_by ++ each col_tokens keys
-TailBefore (tailtaker.Sum keys) x = (y : List Tok) × KeysLead keys y × (x ≡ ((y ++ one mark.Having) ++ one mark.Sum) ++ one mark.LeftParen)
+TailBefore (tailtaker.Sum keys) x = (y : List Terminal) × KeysLead keys y × (x ≡ ((y ++ one mark.Having) ++ one mark.Sum) ++ one mark.LeftParen)
 TailBefore (tailtaker.Dim dims) x = x ≡ skyline_of ++ each dim_tokens dims
 
 -- a whole tail
-abbrev pub TailDone : Bool → Tail → List Tok → Type 0
+abbrev pub TailDone : Bool → Tail → List Terminal → Type 0
 TailDone b t x = (e : grammar.Ending) × (b ≡ true) × (t ≡ ending_tree e) × (x ≡ ending_tokens e)
 
 -- a whole tail, or none
-abbrev pub TailIs : Bool → Tail → List Tok → Type 0
+abbrev pub TailIs : Bool → Tail → List Terminal → Type 0
 TailIs b t x = TailDone b t x ⊎ ((t ≡ tail.Nothing) × (x ≡ []))
 
-abbrev pub TailLeads : Bool → TailPlace → List Tok → Type 0
+abbrev pub TailLeads : Bool → TailPlace → List Terminal → Type 0
 TailLeads b (place.Start begins) x = (begins ≡ b) × (x ≡ [])
 TailLeads b place.Order x = (b ≡ true) × (x ≡ one mark.Order)
 TailLeads b place.Group x = (b ≡ true) × (x ≡ one mark.Group)
 TailLeads b place.Skyline x = (b ≡ true) × (x ≡ one mark.Skyline)
 TailLeads b (place.Taking taker) x = (b ≡ true) × TailBefore taker x
-TailLeads b (place.Name taker n) x = (k : b ≡ true) × (y : List Tok) × TailBefore taker y × (x ≡ y ++ (tok.Name n ∷ []))
-TailLeads b (place.Dot taker n) x = (k : b ≡ true) × (y : List Tok) × TailBefore taker y × (x ≡ (y ++ (tok.Name n ∷ [])) ++ one mark.Dot)
+TailLeads b (place.Name taker n) x = (k : b ≡ true) × (y : List Terminal) × TailBefore taker y × (x ≡ y ++ (terminal.Name n ∷ []))
+TailLeads b (place.Dot taker n) x = (k : b ≡ true) × (y : List Terminal) × TailBefore taker y × (x ≡ (y ++ (terminal.Name n ∷ [])) ++ one mark.Dot)
 TailLeads b (place.Direction by) x = (b ≡ true) × (x ≡ order_by ++ col_tokens by)
 TailLeads b (place.Limit by descending) x = (k : b ≡ true) × (d : grammar.Direction) × (descending ≡ is_descending d) × (x ≡ (order_by ++ col_tokens by) ++ direction_tokens d)
 TailLeads b (place.LimitNumber by descending) x = (k : b ≡ true) × (d : grammar.Direction) × (descending ≡ is_descending d) × (x ≡ ((order_by ++ col_tokens by) ++ direction_tokens d) ++ one mark.Limit)
 TailLeads b (place.Keys keys) x = (b ≡ true) × KeysLead keys x
-TailLeads b (place.Having keys) x = (k : b ≡ true) × (y : List Tok) × KeysLead keys y × (x ≡ y ++ one mark.Having)
-TailLeads b (place.SumOpen keys) x = (k : b ≡ true) × (y : List Tok) × KeysLead keys y × (x ≡ (y ++ one mark.Having) ++ one mark.Sum)
-TailLeads b (place.SumClose keys col) x = (k : b ≡ true) × (y : List Tok) × KeysLead keys y × (x ≡ (((y ++ one mark.Having) ++ one mark.Sum) ++ one mark.LeftParen) ++ col_tokens col)
-TailLeads b (place.CountOpen keys) x = (k : b ≡ true) × (y : List Tok) × KeysLead keys y × (x ≡ (y ++ one mark.Having) ++ one mark.Count)
-TailLeads b (place.CountStar keys) x = (k : b ≡ true) × (y : List Tok) × KeysLead keys y × (x ≡ ((y ++ one mark.Having) ++ one mark.Count) ++ one mark.LeftParen)
-TailLeads b (place.CountClose keys) x = (k : b ≡ true) × (y : List Tok) × KeysLead keys y × (x ≡ (((y ++ one mark.Having) ++ one mark.Count) ++ one mark.LeftParen) ++ one mark.Star)
-TailLeads b (place.Above keys a) x = (k : b ≡ true) × (y : List Tok) × KeysLead keys y × (x ≡ (y ++ one mark.Having) ++ agg_tokens a)
-TailLeads b (place.AboveNumber keys a) x = (k : b ≡ true) × (y : List Tok) × KeysLead keys y × (x ≡ ((y ++ one mark.Having) ++ agg_tokens a) ++ one mark.Gt)
+TailLeads b (place.Having keys) x = (k : b ≡ true) × (y : List Terminal) × KeysLead keys y × (x ≡ y ++ one mark.Having)
+TailLeads b (place.SumOpen keys) x = (k : b ≡ true) × (y : List Terminal) × KeysLead keys y × (x ≡ (y ++ one mark.Having) ++ one mark.Sum)
+TailLeads b (place.SumClose keys col) x = (k : b ≡ true) × (y : List Terminal) × KeysLead keys y × (x ≡ (((y ++ one mark.Having) ++ one mark.Sum) ++ one mark.LeftParen) ++ col_tokens col)
+TailLeads b (place.CountOpen keys) x = (k : b ≡ true) × (y : List Terminal) × KeysLead keys y × (x ≡ (y ++ one mark.Having) ++ one mark.Count)
+TailLeads b (place.CountStar keys) x = (k : b ≡ true) × (y : List Terminal) × KeysLead keys y × (x ≡ ((y ++ one mark.Having) ++ one mark.Count) ++ one mark.LeftParen)
+TailLeads b (place.CountClose keys) x = (k : b ≡ true) × (y : List Terminal) × KeysLead keys y × (x ≡ (((y ++ one mark.Having) ++ one mark.Count) ++ one mark.LeftParen) ++ one mark.Star)
+TailLeads b (place.Above keys a) x = (k : b ≡ true) × (y : List Terminal) × KeysLead keys y × (x ≡ (y ++ one mark.Having) ++ agg_tokens a)
+TailLeads b (place.AboveNumber keys a) x = (k : b ≡ true) × (y : List Terminal) × KeysLead keys y × (x ≡ ((y ++ one mark.Having) ++ agg_tokens a) ++ one mark.Gt)
 TailLeads b (place.DimDirection dims col) x = (b ≡ true) × (x ≡ (skyline_of ++ each dim_tokens dims) ++ col_tokens col)
 TailLeads b (place.Dims dims) x = (k : b ≡ true) × (front : List SkyDim) × (last : SkyDim) × (dims ≡ front ++ (last ∷ [])) × (x ≡ (skyline_of ++ each dim_tokens front) ++ dim_tokens last)
 TailLeads b (place.Whole t) x = TailDone b t x
-TailLeads b (place.Ended t) x = (y : List Tok) × TailIs b t y × (x ≡ y ++ one mark.Semicolon)
+TailLeads b (place.Ended t) x = (y : List Terminal) × TailIs b t y × (x ≡ y ++ one mark.Semicolon)
 
 -- the tokens of a filter, by whether it is that of a semi-join
-abbrev pub FilterIs : Bool → Option Plain → List Tok → Type 0
+abbrev pub FilterIs : Bool → Option Plain → List Terminal → Type 0
 FilterIs b None x = x ≡ []
 FilterIs true (Some p) x = (c : Conj) × (p ≡ conj_tree c) × (x ≡ and_tokens (Some c))
 FilterIs false (Some p) x = (q : Pred) × (p ≡ pred_tree q) × (x ≡ where_tokens (Some q))
 
 -- behind WHERE, where a semi-join may come
-abbrev pub LeadAfter : Head → List Tok → List Tok → Type 0
-LeadAfter h toks xs = (f : List Tok) × IsLevel (Whole h) f × (toks ≡ f ++ xs) × (may_be_outer h ≡ true)
+abbrev pub LeadAfter : Head → List Terminal → List Terminal → Type 0
+LeadAfter h toks xs = (f : List Terminal) × IsLevel (Whole h) f × (toks ≡ f ++ xs) × (may_be_outer h ≡ true)
 
 -- these tokens lead from the start to the place
-abbrev pub Leads : Place → List Tok → Type 0
+abbrev pub Leads : Place → List Terminal → Type 0
 Leads (Heading at) toks = HeadLeads at toks
 Leads (Lead h) toks = IsLevel (Whole h) toks × (may_be_outer h ≡ true)
 Leads (LeadCol h col) toks = LeadAfter h toks (col_tokens col)
 Leads (LeadIn h col) toks = LeadAfter h toks (col_tokens col ++ one mark.In)
 Leads (LeadListed h col) toks = LeadAfter h toks ((col_tokens col ++ one mark.In) ++ one mark.LeftParen)
-Leads (Name (Leading h) n) toks = LeadAfter h toks (tok.Name n ∷ [])
-Leads (Dot (Leading h) n) toks = LeadAfter h toks (tok.Name n ∷ tok.Mark mark.Dot ∷ [])
-Leads (Tailing h filter at) toks = (f g x : List Tok) × IsHead h f × FilterIs (is_semi h.source) filter g × TailLeads (takes_tail h) at x × (toks ≡ (f ++ g) ++ x)
+Leads (Name (Leading h) n) toks = LeadAfter h toks (terminal.Name n ∷ [])
+Leads (Dot (Leading h) n) toks = LeadAfter h toks (terminal.Name n ∷ terminal.Mark mark.Dot ∷ [])
+Leads (Tailing h filter at) toks = (f g x : List Terminal) × IsHead h f × FilterIs (is_semi h.source) filter g × TailLeads (takes_tail h) at x × (toks ≡ (f ++ g) ++ x)
 Leads (Want around) toks = IsAround around toks
-Leads (Name (First around) n) toks = After around toks (tok.Name n ∷ [])
-Leads (Name (Second around col c) n) toks = After around toks ((col_tokens col ++ one (cmp_mark c)) ++ (tok.Name n ∷ []))
-Leads (Dot (First around) n) toks = After around toks (tok.Name n ∷ tok.Mark mark.Dot ∷ [])
-Leads (Dot (Second around col c) n) toks = After around toks (((col_tokens col ++ one (cmp_mark c)) ++ (tok.Name n ∷ [])) ++ one mark.Dot)
+Leads (Name (First around) n) toks = After around toks (terminal.Name n ∷ [])
+Leads (Name (Second around col c) n) toks = After around toks ((col_tokens col ++ one (cmp_mark c)) ++ (terminal.Name n ∷ []))
+Leads (Dot (First around) n) toks = After around toks (terminal.Name n ∷ terminal.Mark mark.Dot ∷ [])
+Leads (Dot (Second around col c) n) toks = After around toks (((col_tokens col ++ one (cmp_mark c)) ++ (terminal.Name n ∷ [])) ++ one mark.Dot)
 Leads (Atom around col) toks = After around toks (col_tokens col)
 Leads (Compared around col c) toks = After around toks (col_tokens col ++ one (cmp_mark c))
 Leads (Low around col) toks = After around toks (col_tokens col ++ one mark.Between)
@@ -225,9 +225,9 @@ Leads (Listed around col literals) toks = After around toks (((col_tokens col ++
 Leads (Next around col literals) toks = (front : List Literal) × (last : Literal) × (literals ≡ front ++ (last ∷ []))
     × After around toks ((((col_tokens col ++ one mark.In) ++ one mark.LeftParen) ++ listed_tokens front) ++ (literal_token last ∷ []))
 Leads (LikeText around col) toks = After around toks (col_tokens col ++ one mark.Like)
-Leads (Negs conjs negs level) toks = (f : List Tok) × (os : Option Pred) × (c : Conj) × IsLevel level f × (conjs ≡ ors_trees os) × (negs ≡ neg_trees c) × (toks ≡ (f ++ ors_tokens os) ++ conj_tokens c) × OrsFit os (takes_or level)
-Leads (Conjs conjs level) toks = (f : List Tok) × (p : Pred) × IsLevel level f × (conjs ≡ conj_trees p) × (toks ≡ f ++ pred_tokens p) × PredFits p (takes_or level)
-Leads (Closed p level) toks = (f : List Tok) × (q : Pred) × IsLevel level f × (p ≡ pred_tree q) × (toks ≡ f ++ pred_tokens q) × PredFits q (takes_or level)
+Leads (Negs conjs negs level) toks = (f : List Terminal) × (os : Option Pred) × (c : Conj) × IsLevel level f × (conjs ≡ ors_trees os) × (negs ≡ neg_trees c) × (toks ≡ (f ++ ors_tokens os) ++ conj_tokens c) × OrsFit os (takes_or level)
+Leads (Conjs conjs level) toks = (f : List Terminal) × (p : Pred) × IsLevel level f × (conjs ≡ conj_trees p) × (toks ≡ f ++ pred_tokens p) × PredFits p (takes_or level)
+Leads (Closed p level) toks = (f : List Terminal) × (q : Pred) × IsLevel level f × (p ≡ pred_tree q) × (toks ≡ f ++ pred_tokens q) × PredFits q (takes_or level)
 
 -- what a test says of the token
 
@@ -277,31 +277,31 @@ numbered mark.Semicolon = refl
 same_mark : (m k : Mark) → mark_number m ≡ mark_number k → m ≡ k
 same_mark m k e = sym (numbered m) ∙ ap (λ n. get_or marks n mark.Select) e ∙ numbered k
 
-pub mark_is : (m : Mark) (t : Tok) → has_mark m t ≡ true → t ≡ tok.Mark m
-mark_is m (tok.Mark k) h = let e : mark_number m ≡ mark_number k = grind (arith, nat_tests) in ap tok.Mark (sym (same_mark m k e))
-mark_is m (tok.Name n) h = cc
-mark_is m (tok.Number n) h = cc
-mark_is m (tok.Text n) h = cc
+pub mark_is : (m : Mark) (t : Terminal) → has_mark m t ≡ true → t ≡ terminal.Mark m
+mark_is m (terminal.Mark k) h = let e : mark_number m ≡ mark_number k = grind (arith, nat_tests) in ap terminal.Mark (sym (same_mark m k e))
+mark_is m (terminal.Name n) h = cc
+mark_is m (terminal.Number n) h = cc
+mark_is m (terminal.Text n) h = cc
 
-pub name_is : (t : Tok) (n : List ℕ) → name_in t ≡ Some n → t ≡ tok.Name n
-name_is (tok.Name k) n h = cc
-name_is (tok.Mark m) n h = cc
-name_is (tok.Number k) n h = cc
-name_is (tok.Text k) n h = cc
+pub name_is : (t : Terminal) (n : List ℕ) → name_in t ≡ Some n → t ≡ terminal.Name n
+name_is (terminal.Name k) n h = cc
+name_is (terminal.Mark m) n h = cc
+name_is (terminal.Number k) n h = cc
+name_is (terminal.Text k) n h = cc
 
-pub text_is : (t : Tok) (n : List ℕ) → text_in t ≡ Some n → t ≡ tok.Text n
-text_is (tok.Name k) n h = cc
-text_is (tok.Mark m) n h = cc
-text_is (tok.Number k) n h = cc
-text_is (tok.Text k) n h = cc
+pub text_is : (t : Terminal) (n : List ℕ) → text_in t ≡ Some n → t ≡ terminal.Text n
+text_is (terminal.Name k) n h = cc
+text_is (terminal.Mark m) n h = cc
+text_is (terminal.Number k) n h = cc
+text_is (terminal.Text k) n h = cc
 
-pub literal_is : (t : Tok) (v : Literal) → literal_in t ≡ Some v → t ≡ literal_token v
-literal_is (tok.Name k) v h = cc
-literal_is (tok.Mark m) v h = cc
-literal_is (tok.Number k) (literal.Number n) h = cc
-literal_is (tok.Number k) (literal.Text n) h = cc
-literal_is (tok.Text k) (literal.Number n) h = cc
-literal_is (tok.Text k) (literal.Text n) h = cc
+pub literal_is : (t : Terminal) (v : Literal) → literal_in t ≡ Some v → t ≡ literal_token v
+literal_is (terminal.Name k) v h = cc
+literal_is (terminal.Mark m) v h = cc
+literal_is (terminal.Number k) (literal.Number n) h = cc
+literal_is (terminal.Number k) (literal.Text n) h = cc
+literal_is (terminal.Text k) (literal.Number n) h = cc
+literal_is (terminal.Text k) (literal.Text n) h = cc
 
 abbrev pub cmps : Mark → Option Cmp → Type 0
 cmps m (Some c) = m ≡ cmp_mark c
@@ -346,11 +346,11 @@ cmp_of_mark mark.Dot = tt
 cmp_of_mark mark.Star = tt
 cmp_of_mark mark.Semicolon = tt
 
-pub cmp_is : (t : Tok) (c : Cmp) → cmp_in t ≡ Some c → t ≡ tok.Mark (cmp_mark c)
-cmp_is (tok.Mark m) c h = ap tok.Mark (subst (cmps m) h (cmp_of_mark m))
-cmp_is (tok.Name k) c h = cc
-cmp_is (tok.Number k) c h = cc
-cmp_is (tok.Text k) c h = cc
+pub cmp_is : (t : Terminal) (c : Cmp) → cmp_in t ≡ Some c → t ≡ terminal.Mark (cmp_mark c)
+cmp_is (terminal.Mark m) c h = ap terminal.Mark (subst (cmps m) h (cmp_of_mark m))
+cmp_is (terminal.Name k) c h = cc
+cmp_is (terminal.Number k) c h = cc
+cmp_is (terminal.Text k) c h = cc
 
 -- what holds of each place that a step can give, and of each way that a step can go
 
@@ -372,22 +372,22 @@ each_given P g None r here else_ = else_
 
 -- one more token
 
-abbrev pub more : List Tok → Tok → List Tok
+abbrev pub more : List Terminal → Terminal → List Terminal
 more toks t = toks ++ (t ∷ [])
 
 -- longer appends
 
-pub assoc4 : (a b c d : List Tok) → ((a ++ b) ++ c) ++ d ≡ a ++ (b ++ (c ++ d))
+pub assoc4 : (a b c d : List Terminal) → ((a ++ b) ++ c) ++ d ≡ a ++ (b ++ (c ++ d))
 assoc4 a b c d = append_assoc (a ++ b) c d ∙ append_assoc a b (c ++ d)
 
-pub assoc5 : (a b c d e : List Tok) → (((a ++ b) ++ c) ++ d) ++ e ≡ a ++ (b ++ (c ++ (d ++ e)))
+pub assoc5 : (a b c d e : List Terminal) → (((a ++ b) ++ c) ++ d) ++ e ≡ a ++ (b ++ (c ++ (d ++ e)))
 assoc5 a b c d e = append_assoc ((a ++ b) ++ c) d e ∙ assoc4 a b c (d ++ e)
 
-pub assoc6 : (a b c d e f : List Tok) → ((((a ++ b) ++ c) ++ d) ++ e) ++ f ≡ a ++ (b ++ (c ++ (d ++ (e ++ f))))
+pub assoc6 : (a b c d e f : List Terminal) → ((((a ++ b) ++ c) ++ d) ++ e) ++ f ≡ a ++ (b ++ (c ++ (d ++ (e ++ f))))
 assoc6 a b c d e f = append_assoc (((a ++ b) ++ c) ++ d) e f ∙ assoc5 a b c d (e ++ f)
 
-pub assoc7 : (a b c d e f g : List Tok) → (((((a ++ b) ++ c) ++ d) ++ e) ++ f) ++ g ≡ a ++ (b ++ (c ++ (d ++ (e ++ (f ++ g)))))
+pub assoc7 : (a b c d e f g : List Terminal) → (((((a ++ b) ++ c) ++ d) ++ e) ++ f) ++ g ≡ a ++ (b ++ (c ++ (d ++ (e ++ (f ++ g)))))
 assoc7 a b c d e f g = append_assoc ((((a ++ b) ++ c) ++ d) ++ e) f g ∙ assoc6 a b c d e (f ++ g)
 
-pub assoc_source : (s e i : List Tok) (a b : Tok) → (((s ++ e) ++ i) ++ (a ∷ [])) ++ (b ∷ []) ≡ (s ++ (e ++ i)) ++ (a ∷ b ∷ [])
+pub assoc_source : (s e i : List Terminal) (a b : Terminal) → (((s ++ e) ++ i) ++ (a ∷ [])) ++ (b ∷ []) ≡ (s ++ (e ++ i)) ++ (a ∷ b ∷ [])
 assoc_source s e i a b = append_assoc ((s ++ e) ++ i) (a ∷ []) (b ∷ []) ∙ ap (λ z. z ++ (a ∷ b ∷ [])) (append_assoc s e i)

@@ -1,7 +1,7 @@
 -- Tokens are walked from place to place, over any fold.
 use Rattle.std.proofs.Common.{◌≡◌, ℕ, ◌+◌, Bool, true, false, ◌||◌, if◌then◌else◌, List, [], ◌∷◌, ◌++◌, length, Option, Some, None, option_map, refl}
-use Rattle.ch_sql_grammar.specs.declared.tok.Mark.TheVariants as mark
-use Rattle.ch_sql_grammar.specs.declared.tok.Tok.{Tok}
+use Rattle.ch_sql_grammar.specs.declared.terminal.Mark.TheVariants as mark
+use Rattle.ch_sql_grammar.specs.declared.terminal.Terminal.{Terminal}
 use Rattle.ch_sql_grammar.specs.declared.query.ColumnRef.{ColumnRef}
 use Rattle.ch_pred.specs.declared.pred.Literal.{Literal}
 use Rattle.ch_sql_grammar.specs.Tree.{Plain, Not, Select}
@@ -16,10 +16,10 @@ pub data Check : Type 0 where
   lists : (number : ℕ) → Check
   matches : (text : List ℕ) → Check
 
-abbrev pub opening : ℕ → Tok → Option Check
+abbrev pub opening : ℕ → Terminal → Option Check
 opening depth t = if has_mark mark.Not t || has_mark mark.LeftParen t then Some (opens depth) else None
 
-abbrev pub check : Place → Tok → Option Check
+abbrev pub check : Place → Terminal → Option Check
 check (Want around) t = opening (depth_of around) t
 check (Lead h) t = opening 0 t
 check (Listed around col literals) t = Some (lists (length literals))
@@ -41,7 +41,7 @@ abbrev pub led : {R : Type 0} → Fold R → (Place → R) → Option Place → 
 led fold k (Some next) = k next
 led fold k None = fold.stuck
 
-abbrev pub run : {R : Type 0} → Fold R → Place → List Tok → R
+abbrev pub run : {R : Type 0} → Fold R → Place → List Terminal → R
 run fold place [] = fold.end place
 run fold place (t ∷ ts) = noted fold (check place t) (led fold (λ next. run fold next ts) (step place t))
 
@@ -92,11 +92,11 @@ form_on fold (grammar.one front last table filter ending) r = where_on fold filt
 
 -- behind a column no limit looks at a token
 
-check_have : (around : Around) (p : Plain) (t : Tok) → check (have p around) t ≡ None
+check_have : (around : Around) (p : Plain) (t : Terminal) → check (have p around) t ≡ None
 check_have (Member conjs negs level) p t = refl
 check_have (Negated around) p t = check_have around (Not p) t
 
-pub check_took : (taker : Taker) (col : ColumnRef) (t : Tok) → check (took taker col) t ≡ None
+pub check_took : (taker : Taker) (col : ColumnRef) (t : Terminal) → check (took taker col) t ≡ None
 check_took (First around) col t = refl
 check_took (Second around left c) col t = check_have around _ t
 check_took (Leading h) col t = refl

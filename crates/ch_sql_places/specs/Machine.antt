@@ -2,8 +2,8 @@
 use Rattle.std.specs.Prelude.{ℕ, ◌+◌, ◌==◌, Bool, true, false, ◌||◌, not, nat_lt, List, [], ◌∷◌, ◌++◌, length, take, Option, Some, None, option_map, option_and_then, ◌&&◌, ◌-◌, Result, Ok, Err, if◌then◌else◌, slice_index_or}
 use Rattle.std.specs.List.{list_all}
 use Rattle.ch_sql_grammar.specs.declared.limits.TheConstants.{MAX_DEPTH, MAX_LITERALS}
-use Rattle.ch_sql_grammar.specs.declared.tok.Mark.TheVariants as mark
-use Rattle.ch_sql_grammar.specs.declared.tok.Tok.{Tok}
+use Rattle.ch_sql_grammar.specs.declared.terminal.Mark.TheVariants as mark
+use Rattle.ch_sql_grammar.specs.declared.terminal.Terminal.{Terminal}
 use Rattle.ch_sql_grammar.specs.declared.query.ColumnRef.{ColumnRef}
 use Rattle.ch_sql_grammar.specs.Grammar.{is_plain_item}
 use Rattle.ch_sql_grammar.specs.declared.query.Source.{Source}
@@ -119,21 +119,21 @@ given (Some x) f e = f x
 given None f e = e
 
 -- behind a source or a filter
-abbrev pub tailing : Head → Option Plain → Tok → Option Place
+abbrev pub tailing : Head → Option Plain → Terminal → Option Place
 tailing h filter t = option_map (λ p. Tailing h filter p) (tails.step_of (place.Start (takes_tail h)) t)
 
 -- behind a source; the filter of a semi-join follows AND
-abbrev pub behind : Head → Tok → Option Place
+abbrev pub behind : Head → Terminal → Option Place
 behind h t =
     if has_mark mark.Where t && not (is_semi h.source) then (if may_be_outer h then Some (Lead h) else Some (Want (whole h))) else
     if has_mark mark.And t && is_semi h.source then Some (Want (whole h)) else tailing h None t
 
-abbrev pub headed : HeadStep → Tok → Option Place
+abbrev pub headed : HeadStep → Terminal → Option Place
 headed (headstep.On next) t = Some (Heading next)
 headed (headstep.Done h) t = behind h t
 headed headstep.Stuck t = None
 
-abbrev pub after_pred : Plain → Level → Tok → Option Place
+abbrev pub after_pred : Plain → Level → Terminal → Option Place
 after_pred p (Whole h) t = tailing h (Some p) t
 after_pred p (Group around) t = if has_mark mark.RightParen t then Some (have p around) else None
 
@@ -142,21 +142,21 @@ abbrev pub takes_or : Level → Bool
 takes_or (Whole h) = not (is_semi h.source)
 takes_or (Group around) = true
 
-abbrev pub after_conj : List Plain → Level → Tok → Option Place
+abbrev pub after_conj : List Plain → Level → Terminal → Option Place
 after_conj conjs level t = if has_mark mark.Or t && takes_or level then Some (Want (Member conjs [] level)) else after_pred (any_of conjs) level t
 
-abbrev pub after_neg : List Plain → List Plain → Level → Tok → Option Place
+abbrev pub after_neg : List Plain → List Plain → Level → Terminal → Option Place
 after_neg conjs negs level t = if has_mark mark.And t then Some (Want (Member conjs negs level)) else after_conj (conjs ++ (all_of negs ∷ [])) level t
 
 -- behind the column of an atom
-abbrev pub after_col : Around → ColumnRef → Tok → Option Place
+abbrev pub after_col : Around → ColumnRef → Terminal → Option Place
 after_col around col t = given (cmp_in t) (λ c. Some (Compared around col c)) (
     if has_mark mark.Between t then Some (Low around col) else
     if has_mark mark.In t then Some (In around col) else
     if has_mark mark.Like t then Some (LikeText around col) else None)
 
 -- the place behind a token, at the places where no column may end before it
-abbrev pub step_settled : Place → Tok → Option Place
+abbrev pub step_settled : Place → Terminal → Option Place
 step_settled (Heading at) t = headed (heads.step_of at t) t
 step_settled (Lead h) t =
     if has_mark mark.Not t then Some (Want (Negated (whole h))) else
@@ -190,7 +190,7 @@ step_settled (Conjs conjs level) t = after_conj conjs level t
 step_settled (Closed p level) t = after_pred p level t
 step_settled (Tailing h filter at) t = option_map (λ p. Tailing h filter p) (tails.step_of at t)
 
-abbrev pub step : Place → Tok → Option Place
+abbrev pub step : Place → Terminal → Option Place
 step (Name taker n) t = if has_mark mark.Dot t then Some (Dot taker n) else step_settled (took taker (record { table = None; name = n })) t
 step place t = step_settled place t
 
@@ -222,15 +222,15 @@ abbrev mutual
   level_depth (Group around) = depth_of around + 1
 
 -- a text that ends in % and has no other % and no _
-abbrev pub is_prefix : List ℕ → Bool
-is_prefix s = if nat_lt 0 (length s) then list_all (λ b. not (b == 37) && not (b == 95)) (take (length s - 1) s) && (slice_index_or s (length s - 1) 0 == 37) else false
+abbrev pub is_pattern : List ℕ → Bool
+is_pattern s = if nat_lt 0 (length s) then list_all (λ b. not (b == 37) && not (b == 95)) (take (length s - 1) s) && (slice_index_or s (length s - 1) 0 == 37) else false
 
 -- what refuses a token that the grammar takes
-abbrev pub limit : Place → ℕ → Tok → Option ParseError
+abbrev pub limit : Place → ℕ → Terminal → Option ParseError
 limit (Want around) at t =
     if (has_mark mark.Not t || has_mark mark.LeftParen t) && not (nat_lt (depth_of around) MAX_DEPTH) then Some (error.TooDeep at) else None
 limit (Listed around col literals) at t = if nat_lt (length literals) MAX_LITERALS then None else Some (error.InTooLong at)
-limit (LikeText around col) at t = option_and_then (λ s. if is_prefix s then None else Some (error.BadLike at)) (text_in t)
+limit (LikeText around col) at t = option_and_then (λ s. if is_pattern s then None else Some (error.BadLike at)) (text_in t)
 limit place at t = None
 
 abbrev pub goes : Option Place → Option ParseError → ℕ → (Place → Result Select ParseError) → Result Select ParseError
@@ -243,7 +243,7 @@ ends (Some q) at = Ok q
 ends None at = Err (error.Syntax at)
 
 -- what the tokens give from a place on, the first of which has the number at
-abbrev pub parse_from : Place → ℕ → List Tok → Result Select ParseError
+abbrev pub parse_from : Place → ℕ → List Terminal → Result Select ParseError
 parse_from place at [] = ends (finish place) at
 parse_from place at (t ∷ ts) = goes (step place t) (limit place at t) at (λ next. parse_from next (at + 1) ts)
 
@@ -252,11 +252,11 @@ start = Heading head.Start
 
 -- the places alone, without what refuses a token
 
-abbrev pub walk : Place → List Tok → Option Place
+abbrev pub walk : Place → List Terminal → Option Place
 walk place [] = Some place
 walk place (t ∷ ts) = option_and_then (λ next. walk next ts) (step place t)
 
 -- the query that the tokens give from a place on, if they give one
-abbrev pub answer : Place → List Tok → Option Select
+abbrev pub answer : Place → List Terminal → Option Select
 answer place [] = finish place
 answer place (t ∷ ts) = option_and_then (λ next. answer next ts) (step place t)

@@ -1,23 +1,23 @@
 -- The refusals, in words of the grammar and of the limits.
 use Rattle.std.specs.Prelude.{ℕ, ◌+◌, ◌≤◌, ◌≡◌, ◌⊎◌, Bool, true, false, List, [], ◌∷◌, ◌++◌, length, Option, Some, None}
 use Rattle.ch_sql_grammar.specs.declared.limits.TheConstants.{MAX_DEPTH, MAX_LITERALS}
-use Rattle.ch_sql_grammar.specs.declared.tok.Mark.TheVariants as mark
-use Rattle.ch_sql_grammar.specs.declared.tok.Tok.{Tok}
-use Rattle.ch_sql_grammar.specs.declared.tok.Tok.TheVariants as tok
+use Rattle.ch_sql_grammar.specs.declared.terminal.Mark.TheVariants as mark
+use Rattle.ch_sql_grammar.specs.declared.terminal.Terminal.{Terminal}
+use Rattle.ch_sql_grammar.specs.declared.terminal.Terminal.TheVariants as terminal
 use Rattle.ch_sql_grammar.specs.declared.query.ColumnRef.{ColumnRef}
 use Rattle.ch_sql_grammar.specs.declared.error.ParseError.{ParseError}
 use Rattle.ch_sql_grammar.specs.declared.error.ParseError.TheVariants as error
 use Rattle.ch_pred.specs.declared.pred.Literal.{Literal}
 use Rattle.ch_sql_grammar.specs.Grammar as grammar
 use Rattle.ch_sql_grammar.specs.Grammar.{Pred, Conj, Form, IsForm, Begins, IsEnd, col_tokens, literal_token, listed_tokens, pred_tokens, conj_tokens, distinct_tokens, join_tokens, semi_tokens, one_tokens}
-use Rattle.ch_sql_places.specs.Machine.{is_prefix}
+use Rattle.ch_sql_places.specs.Machine.{is_pattern}
 
 -- the tokens of a form up to its filter
-abbrev pub before_filter : Form → List Tok
-before_filter (grammar.distinct front last table filter) = distinct_tokens front last table ++ (tok.Mark mark.Where ∷ [])
-before_filter (grammar.join front last left right first_on second_on filter) = join_tokens front last left right first_on second_on ++ (tok.Mark mark.Where ∷ [])
-before_filter (grammar.semi front last outer key inner_key inner filter) = semi_tokens front last outer key inner_key inner ++ (tok.Mark mark.And ∷ [])
-before_filter (grammar.one front last table filter ending) = one_tokens front last table ++ (tok.Mark mark.Where ∷ [])
+abbrev pub before_filter : Form → List Terminal
+before_filter (grammar.distinct front last table filter) = distinct_tokens front last table ++ (terminal.Mark mark.Where ∷ [])
+before_filter (grammar.join front last left right first_on second_on filter) = join_tokens front last left right first_on second_on ++ (terminal.Mark mark.Where ∷ [])
+before_filter (grammar.semi front last outer key inner_key inner filter) = semi_tokens front last outer key inner_key inner ++ (terminal.Mark mark.And ∷ [])
+before_filter (grammar.one front last table filter ending) = one_tokens front last table ++ (terminal.Mark mark.Where ∷ [])
 
 mutual
   -- what stands before a neg: finished conjs with an OR behind them and negs with an AND, or a NOT
@@ -30,22 +30,22 @@ mutual
     filter_of : (form : Form) → OpenPred
     grouped : (around : Open) → OpenPred
 
-abbrev pub ors_tokens : Option Pred → List Tok
+abbrev pub ors_tokens : Option Pred → List Terminal
 ors_tokens None = []
-ors_tokens (Some p) = pred_tokens p ++ (tok.Mark mark.Or ∷ [])
+ors_tokens (Some p) = pred_tokens p ++ (terminal.Mark mark.Or ∷ [])
 
-abbrev pub ands_tokens : Option Conj → List Tok
+abbrev pub ands_tokens : Option Conj → List Terminal
 ands_tokens None = []
-ands_tokens (Some c) = conj_tokens c ++ (tok.Mark mark.And ∷ [])
+ands_tokens (Some c) = conj_tokens c ++ (terminal.Mark mark.And ∷ [])
 
 abbrev mutual
-  pub open_tokens : Open → List Tok
+  pub open_tokens : Open → List Terminal
   open_tokens (behind around conjs negs) = (open_pred_tokens around ++ ors_tokens conjs) ++ ands_tokens negs
-  open_tokens (negated around) = open_tokens around ++ (tok.Mark mark.Not ∷ [])
+  open_tokens (negated around) = open_tokens around ++ (terminal.Mark mark.Not ∷ [])
 
-  pub open_pred_tokens : OpenPred → List Tok
+  pub open_pred_tokens : OpenPred → List Terminal
   open_pred_tokens (filter_of form) = before_filter form
-  open_pred_tokens (grouped around) = open_tokens around ++ (tok.Mark mark.LeftParen ∷ [])
+  open_pred_tokens (grouped around) = open_tokens around ++ (terminal.Mark mark.LeftParen ∷ [])
 
 -- how many NOT and parentheses are open
 abbrev mutual
@@ -83,46 +83,46 @@ abbrev mutual
   IsOpenPred (grouped around) = IsOpen around
 
 -- a NOT or a parenthesis of a neg inside 32 others or more
-pub record IsDeep (front : List Tok) (token : Tok) : Type 0 where
+pub record IsDeep (front : List Terminal) (token : Terminal) : Type 0 where
   pub around : Open
   pub is_open : IsOpen around
   pub spelled : front ≡ open_tokens around
   pub deep : MAX_DEPTH ≤ open_depth around
-  pub opens : (token ≡ tok.Mark mark.Not) ⊎ (token ≡ tok.Mark mark.LeftParen)
+  pub opens : (token ≡ terminal.Mark mark.Not) ⊎ (token ≡ terminal.Mark mark.LeftParen)
 
 -- a literal behind 16 others or more of its list
-pub record IsLong (front : List Tok) (token : Tok) : Type 0 where
+pub record IsLong (front : List Terminal) (token : Terminal) : Type 0 where
   pub around : Open
   pub is_open : IsOpen around
   pub col : ColumnRef
   pub literals : List Literal
-  pub spelled : front ≡ open_tokens around ++ (col_tokens col ++ (tok.Mark mark.In ∷ tok.Mark mark.LeftParen ∷ listed_tokens literals))
+  pub spelled : front ≡ open_tokens around ++ (col_tokens col ++ (terminal.Mark mark.In ∷ terminal.Mark mark.LeftParen ∷ listed_tokens literals))
   pub many : MAX_LITERALS ≤ length literals
   pub value : Literal
   pub lists : token ≡ literal_token value
 
 -- a text behind LIKE that is no prefix and a percent sign
-pub record IsUnmatched (front : List Tok) (token : Tok) : Type 0 where
+pub record IsUnmatched (front : List Terminal) (token : Terminal) : Type 0 where
   pub around : Open
   pub is_open : IsOpen around
   pub col : ColumnRef
   pub text : List ℕ
-  pub spelled : front ≡ open_tokens around ++ (col_tokens col ++ (tok.Mark mark.Like ∷ []))
-  pub matches : token ≡ tok.Text text
-  pub bad : is_prefix text ≡ false
+  pub spelled : front ≡ open_tokens around ++ (col_tokens col ++ (terminal.Mark mark.Like ∷ []))
+  pub matches : token ≡ terminal.Text text
+  pub bad : is_pattern text ≡ false
 
 -- behind these tokens, this one breaks a limit
-abbrev pub Breaks : List Tok → Tok → Type 0
+abbrev pub Breaks : List Terminal → Terminal → Type 0
 Breaks front token = IsDeep front token ⊎ (IsLong front token ⊎ IsUnmatched front token)
 
 -- none of the tokens breaks a limit
-abbrev pub KeepsLimits : List Tok → Type 0
-KeepsLimits tokens = (front : List Tok) (token : Tok) (rest : List Tok) → tokens ≡ front ++ (token ∷ rest) → Breaks front token → ⊥
+abbrev pub KeepsLimits : List Terminal → Type 0
+KeepsLimits tokens = (front : List Terminal) (token : Terminal) (rest : List Terminal) → tokens ≡ front ++ (token ∷ rest) → Breaks front token → ⊥
 
 -- the tokens before keep the limits and begin a query, and with the next one they begin none
-pub record IsSyntax (tokens : List Tok) (at : ℕ) : Type 0 where
-  pub front : List Tok
-  pub rest : List Tok
+pub record IsSyntax (tokens : List Terminal) (at : ℕ) : Type 0 where
+  pub front : List Terminal
+  pub rest : List Terminal
   pub whole : tokens ≡ front ++ rest
   pub here : at ≡ length front
   pub kept : KeepsLimits front
@@ -130,17 +130,17 @@ pub record IsSyntax (tokens : List Tok) (at : ℕ) : Type 0 where
   pub ends : IsEnd front rest
 
 -- the tokens before keep the limits, with the next one they begin a query, and that one breaks a limit
-pub record IsLimit (Broken : List Tok → Tok → Type 0) (tokens : List Tok) (at : ℕ) : Type 0 where
-  pub front : List Tok
-  pub token : Tok
-  pub rest : List Tok
+pub record IsLimit (Broken : List Terminal → Terminal → Type 0) (tokens : List Terminal) (at : ℕ) : Type 0 where
+  pub front : List Terminal
+  pub token : Terminal
+  pub rest : List Terminal
   pub whole : tokens ≡ front ++ (token ∷ rest)
   pub here : at ≡ length front
   pub kept : KeepsLimits front
   pub begins : Begins (front ++ (token ∷ []))
   pub broken : Broken front token
 
-abbrev pub IsRefusal : List Tok → ParseError → Type 0
+abbrev pub IsRefusal : List Terminal → ParseError → Type 0
 IsRefusal tokens error.Memory = Unit {0}
 IsRefusal tokens (error.Syntax at) = IsSyntax tokens at
 IsRefusal tokens (error.TooDeep at) = IsLimit IsDeep tokens at

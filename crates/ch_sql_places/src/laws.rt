@@ -1,5 +1,5 @@
 ghost use Rattle.std.specs.Prelude.{◌≡◌, ◌↔◌, List, Some, Err};
-ghost use Rattle.ch_sql_grammar.specs.declared.tok.Tok.{Tok};
+ghost use Rattle.ch_sql_grammar.specs.declared.terminal.Terminal.{Terminal};
 ghost use Rattle.ch_sql_grammar.specs.declared.error.ParseError.{ParseError};
 ghost use Rattle.ch_sql_grammar.specs.Tree.{Select};
 ghost use Rattle.ch_sql_grammar.specs.Grammar.{IsQuery};
@@ -14,15 +14,15 @@ pub fn every_place_is_completed()
 
 /// The places give exactly what the grammar derives.
 pub fn places_give_what_is_derived()
-    ensures { (tokens : List Tok) (tree : Select) → IsQuery tokens tree ↔ (answer start tokens ≡ Some tree) }
+    ensures { (tokens : List Terminal) (tree : Select) → IsQuery tokens tree ↔ (answer start tokens ≡ Some tree) }
 {}
 
 /// Tokens derive one tree at most.
 pub fn derived_trees_are_equal()
-    ensures { (tokens : List Tok) (a b : Select) → IsQuery tokens a → IsQuery tokens b → a ≡ b }
+    ensures { (tokens : List Terminal) (a b : Select) → IsQuery tokens a → IsQuery tokens b → a ≡ b }
 {}
 
 /// Each refusal of the places is the first that holds, at its token.
 pub fn refusals_are_first()
-    ensures { (tokens : List Tok) (e : ParseError) → parse_from start 0 tokens ≡ Err e → IsRefusal tokens e }
+    ensures { (tokens : List Terminal) (e : ParseError) → parse_from start 0 tokens ≡ Err e → IsRefusal tokens e }
 {}

@@ -7,12 +7,14 @@ use ch_sql::{ColumnRef, Item, Pred, Query, Source, Tail, print, read_query};
 use std::alloc::Global;
 use std::str;
 
-/// The text of the query that a text is.
-fn printed(alloc: Global, text: &[u8]) -> anyhow::Result<Bytes> {
+/// The text of the query that a text is, and whether it is read again as that query.
+fn printed(alloc: Global, text: &[u8]) -> anyhow::Result<(Bytes, bool)> {
     let query = read_query(alloc, text)?;
-    let text = print(alloc, &query);
-    drop(query);
-    Ok(text?)
+    let text = print(alloc, &query)?;
+    let again = read_query(alloc, text.as_slice())?;
+    let same = again == query;
+    drop((again, query));
+    Ok((text, same))
 }
 
 fn column(alloc: Global, name: &[u8]) -> Result<ColumnRef, Memory> {
@@ -47,7 +49,8 @@ fn main(rt: HostRuntime) -> anyhow::Result<()> {
     for line in rt.lines(alloc) {
         let line = line?;
         match printed(alloc, line.as_bytes()) {
-            Ok(text) => println!(rt; "{line} => {}", str::from_utf8(text.as_slice())?)?,
+            Ok((text, true)) => println!(rt; "{line} => {}", str::from_utf8(text.as_slice())?)?,
+            Ok((_, false)) => println!(rt; "{line} => another query when it is read again")?,
             Err(error) => println!(rt; "{line} => {error}")?,
         }
     }

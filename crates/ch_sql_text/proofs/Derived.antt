@@ -8,57 +8,57 @@ use Rattle.std.proofs.Math.Seq.{take-append_seam}
 use Rattle.ch_sql_tokens.proofs.Bools.{both, same}
 use Rattle.ch_sql_tokens.proofs.QuoteRules.{dropped}
 use Rattle.ch_pred.specs.declared.pred.Literal.{Literal}
-use Rattle.ch_sql_grammar.specs.declared.tok.Mark.TheVariants as mark
-use Rattle.ch_sql_grammar.specs.declared.tok.Tok.{Tok}
-use Rattle.ch_sql_grammar.specs.declared.tok.Tok.TheVariants as tok
+use Rattle.ch_sql_grammar.specs.declared.terminal.Mark.TheVariants as mark
+use Rattle.ch_sql_grammar.specs.declared.terminal.Terminal.{Terminal}
+use Rattle.ch_sql_grammar.specs.declared.terminal.Terminal.TheVariants as terminal
 use Rattle.ch_sql_grammar.specs.declared.query.ColumnRef.{ColumnRef}
 use Rattle.ch_sql_grammar.specs.Tree.{Plain, Plains, Within, Like, And, Or, Not, plains, all_of, any_of}
 use Rattle.ch_sql_grammar.specs.Grammar as grammar
 use Rattle.ch_sql_grammar.specs.Grammar.{Pred, conj, or, Conj, neg, and, Neg, parens, atom, col_tokens, pred_tokens, conj_tokens, neg_tokens, atom_tokens, atom_tree, conj_trees, neg_trees, neg_tree, pred_tree, conj_tree}
-use Rattle.ch_sql_places.specs.Machine.{is_prefix}
+use Rattle.ch_sql_places.specs.Machine.{is_pattern}
 use Rattle.ch_sql_limits.specs.Limits.{pred_depth, conj_depth, neg_depth, AtomFits, PredAtomsFit, ConjAtomsFit, NegAtomsFit}
 use Rattle.ch_sql_text.specs.Printed.{joined, in_parens, is_or, is_and_or, filter_tokens, and_members, or_members}
 use Rattle.ch_sql_text.proofs.Listing.{HasFirst, HasFirst-append, joined_push, joined_literals, no_parens}
 
 -- A derivation of a tree and of tokens, of at most a depth. Its atoms fit where a premise holds.
 
-pub record NegFor (A : Type 0) (tree : Plain) (tokens : List Tok) (depth : ℕ) : Type 0 where
+pub record NegFor (A : Type 0) (tree : Plain) (tokens : List Terminal) (depth : ℕ) : Type 0 where
   pub form : Neg
   pub has_tree : neg_tree form ≡ tree
   pub has_tokens : neg_tokens form ≡ tokens
   pub has_depth : neg_depth form ≤ depth
   pub fits : A → NegAtomsFit form
 
-pub record ConjFor (A : Type 0) (tree : Plain) (tokens : List Tok) (depth : ℕ) : Type 0 where
+pub record ConjFor (A : Type 0) (tree : Plain) (tokens : List Terminal) (depth : ℕ) : Type 0 where
   pub form : Conj
   pub has_tree : conj_tree form ≡ tree
   pub has_tokens : conj_tokens form ≡ tokens
   pub has_depth : conj_depth form ≤ depth
   pub fits : A → ConjAtomsFit form
 
-pub record PredFor (A : Type 0) (tree : Plain) (tokens : List Tok) (depth : ℕ) : Type 0 where
+pub record PredFor (A : Type 0) (tree : Plain) (tokens : List Terminal) (depth : ℕ) : Type 0 where
   pub form : Pred
   pub has_tree : pred_tree form ≡ tree
   pub has_tokens : pred_tokens form ≡ tokens
   pub has_depth : pred_depth form ≤ depth
   pub fits : A → PredAtomsFit form
 
-neg_for : (A : Type 0) (t : Plain) (x y : List Tok) (d e : ℕ) → NegFor A t x d → x ≡ y → d ≤ e → NegFor A t y e
+neg_for : (A : Type 0) (t : Plain) (x y : List Terminal) (d e : ℕ) → NegFor A t x d → x ≡ y → d ≤ e → NegFor A t y e
 neg_for A t x y d e n s le = record { form = n.form; has_tree = n.has_tree; has_tokens = n.has_tokens ∙ s; has_depth = (let h = n.has_depth in omega arith); fits = n.fits }
 
-conj_for : (A : Type 0) (t : Plain) (x y : List Tok) (d e : ℕ) → ConjFor A t x d → x ≡ y → d ≤ e → ConjFor A t y e
+conj_for : (A : Type 0) (t : Plain) (x y : List Terminal) (d e : ℕ) → ConjFor A t x d → x ≡ y → d ≤ e → ConjFor A t y e
 conj_for A t x y d e n s le = record { form = n.form; has_tree = n.has_tree; has_tokens = n.has_tokens ∙ s; has_depth = (let h = n.has_depth in omega arith); fits = n.fits }
 
-pred_for : (A : Type 0) (t : Plain) (x y : List Tok) (d e : ℕ) → PredFor A t x d → x ≡ y → d ≤ e → PredFor A t y e
+pred_for : (A : Type 0) (t : Plain) (x y : List Terminal) (d e : ℕ) → PredFor A t x d → x ≡ y → d ≤ e → PredFor A t y e
 pred_for A t x y d e n s le = record { form = n.form; has_tree = n.has_tree; has_tokens = n.has_tokens ∙ s; has_depth = (let h = n.has_depth in omega arith); fits = n.fits }
 
-conj_from_neg : (A : Type 0) (t : Plain) (x : List Tok) (d : ℕ) → NegFor A t x d → ConjFor A t x d
+conj_from_neg : (A : Type 0) (t : Plain) (x : List Terminal) (d : ℕ) → NegFor A t x d → ConjFor A t x d
 conj_from_neg A t x d n = record { form = neg n.form; has_tree = n.has_tree; has_tokens = n.has_tokens; has_depth = n.has_depth; fits = n.fits }
 
-pred_from_conj : (A : Type 0) (t : Plain) (x : List Tok) (d : ℕ) → ConjFor A t x d → PredFor A t x d
+pred_from_conj : (A : Type 0) (t : Plain) (x : List Terminal) (d : ℕ) → ConjFor A t x d → PredFor A t x d
 pred_from_conj A t x d c = record { form = conj c.form; has_tree = c.has_tree; has_tokens = c.has_tokens; has_depth = c.has_depth; fits = c.fits }
 
-neg_in_parens : (A : Type 0) (t : Plain) (x : List Tok) (d : ℕ) → PredFor A t x d → NegFor A t (in_parens true x) (d + 1)
+neg_in_parens : (A : Type 0) (t : Plain) (x : List Terminal) (d : ℕ) → PredFor A t x d → NegFor A t (in_parens true x) (d + 1)
 neg_in_parens A t x d p = record {
   form = parens p.form;
   has_tree = p.has_tree;
@@ -125,10 +125,10 @@ prefix_by s true e h =
     let some : 0 < length s = grind (arith, nat_tests) in
     ap (λ k. take (length s - 1) s ++ (k ∷ [])) (sym (same _ 37 (both _ (get_or s (length s - 1) 0 == 37) h).1)) ∙ with_last s some
 
-prefix_kept : (s : List ℕ) → is_prefix s ≡ true → is_prefix (take (length s - 1) s ++ (37 ∷ [])) ≡ true
-prefix_kept s h = ap is_prefix (prefix_by s (nat_lt 0 (length s)) refl h) ∙ h
+prefix_kept : (s : List ℕ) → is_pattern s ≡ true → is_pattern (take (length s - 1) s ++ (37 ∷ [])) ≡ true
+prefix_kept s h = ap is_pattern (prefix_by s (nat_lt 0 (length s)) refl h) ∙ h
 
-show_like : (col : ColumnRef) (text : List ℕ) → NegFor (is_prefix text ≡ true) (Like col (take (length text - 1) text)) (filter_tokens (Like col (take (length text - 1) text))) 0
+show_like : (col : ColumnRef) (text : List ℕ) → NegFor (is_pattern text ≡ true) (Like col (take (length text - 1) text)) (filter_tokens (Like col (take (length text - 1) text))) 0
 show_like col text = record {
   form = atom (grammar.like col (take (length text - 1) text ++ (37 ∷ [])));
   has_tree = ap (Like col) (all_but_last (take (length text - 1) text) 37);
@@ -139,7 +139,7 @@ show_like col text = record {
 
 pub within_tokens : (col : ColumnRef) (front : List Literal) (last : Literal) → atom_tokens (grammar.within col front last) ≡ filter_tokens (Within col (front ++ (last ∷ [])))
 within_tokens col front last =
-    ap (λ v. col_tokens col ++ (tok.Mark mark.In ∷ tok.Mark mark.LeftParen ∷ v)) (sym (append_assoc _ (_ ∷ []) (tok.Mark mark.RightParen ∷ [])) ∙ ap (λ v. v ++ (tok.Mark mark.RightParen ∷ [])) (sym (joined_literals front last)))
+    ap (λ v. col_tokens col ++ (terminal.Mark mark.In ∷ terminal.Mark mark.LeftParen ∷ v)) (sym (append_assoc _ (_ ∷ []) (terminal.Mark mark.RightParen ∷ [])) ∙ ap (λ v. v ++ (terminal.Mark mark.RightParen ∷ [])) (sym (joined_literals front last)))
 
 show_within : (col : ColumnRef) (front : List Literal) (last : Literal) →
     NegFor (length (front ++ (last ∷ [])) ≤ 16) (Within col (front ++ (last ∷ []))) (filter_tokens (Within col (front ++ (last ∷ [])))) 0
@@ -161,17 +161,17 @@ show_not : (A : Type 0) (t : Plain) (d : ℕ) → NegFor A t (in_parens (is_and_
 show_not A t d n = show_single A (Not t) (d + 1) refl refl (record {
   form = grammar.not n.form;
   has_tree = ap Not n.has_tree;
-  has_tokens = ap (λ v. tok.Mark mark.Not ∷ v) n.has_tokens;
+  has_tokens = ap (λ v. terminal.Mark mark.Not ∷ v) n.has_tokens;
   has_depth = (let h = n.has_depth in omega arith);
   fits = n.fits;
 })
 
 -- chains
 
-abbrev pub and_part : Plain → List Tok
+abbrev pub and_part : Plain → List Terminal
 and_part t = in_parens (is_and_or t) (filter_tokens t)
 
-abbrev pub or_part : Plain → List Tok
+abbrev pub or_part : Plain → List Terminal
 or_part t = in_parens (is_or t) (filter_tokens t)
 
 pub and_members_map : (ts : List Plain) → and_members (plains ts) ≡ map and_part ts
@@ -227,7 +227,7 @@ next_conj : (c : Conj) (n : Neg) → ConjChain c → NegFor (NegAtomsFit n) (neg
 next_conj c n k s = record {
   form = and k.form s.form;
   has_trees = ap₂ (λ xs x. xs ++ (x ∷ [])) k.has_trees s.has_tree;
-  has_tokens = ap₂ (λ xs x. xs ++ (tok.Mark mark.And ∷ x)) k.has_tokens s.has_tokens ∙ sym (joined_push and_part mark.And (neg_trees c) (neg_tree n) (neg_trees_first c));
+  has_tokens = ap₂ (λ xs x. xs ++ (terminal.Mark mark.And ∷ x)) k.has_tokens s.has_tokens ∙ sym (joined_push and_part mark.And (neg_trees c) (neg_tree n) (neg_trees_first c));
   has_depth = (let h = k.has_depth in let l = s.has_depth in omega arith);
   fits = λ (a, b). (k.fits a, s.fits b);
 }
@@ -245,7 +245,7 @@ next_pred : (p : Pred) (c : Conj) → PredChain p → ConjFor (ConjAtomsFit c) (
 next_pred p c k s = record {
   form = or k.form s.form;
   has_trees = ap₂ (λ xs x. xs ++ (x ∷ [])) k.has_trees s.has_tree;
-  has_tokens = ap₂ (λ xs x. xs ++ (tok.Mark mark.Or ∷ x)) k.has_tokens s.has_tokens ∙ sym (joined_push or_part mark.Or (conj_trees p) (conj_tree c) (conj_trees_first p));
+  has_tokens = ap₂ (λ xs x. xs ++ (terminal.Mark mark.Or ∷ x)) k.has_tokens s.has_tokens ∙ sym (joined_push or_part mark.Or (conj_trees p) (conj_tree c) (conj_trees_first p));
   has_depth = (let h = k.has_depth in let l = s.has_depth in omega arith);
   fits = λ (a, b). (k.fits a, s.fits b);
 }

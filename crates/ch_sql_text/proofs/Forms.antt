@@ -1,8 +1,8 @@
 -- The printed tokens of a query that is derived derive it again, within the limits where it was.
 use Rattle.std.proofs.Common.{◌≡◌, ℕ, Bool, true, false, List, [], ◌∷◌, ◌++◌, map, inl, Option, Some, None, option_map, refl, sym, ap, ap₂, ◌∙◌, append_assoc, append-nil, arith}
-use Rattle.ch_sql_grammar.specs.declared.tok.Mark.TheVariants as mark
-use Rattle.ch_sql_grammar.specs.declared.tok.Tok.{Tok}
-use Rattle.ch_sql_grammar.specs.declared.tok.Tok.TheVariants as tok
+use Rattle.ch_sql_grammar.specs.declared.terminal.Mark.TheVariants as mark
+use Rattle.ch_sql_grammar.specs.declared.terminal.Terminal.{Terminal}
+use Rattle.ch_sql_grammar.specs.declared.terminal.Terminal.TheVariants as terminal
 use Rattle.ch_sql_grammar.specs.declared.query.ColumnRef.{ColumnRef}
 use Rattle.ch_sql_grammar.specs.declared.query.Item.{Item}
 use Rattle.ch_sql_grammar.specs.declared.query.Source.{Source}
@@ -32,7 +32,7 @@ filter_for (Some p) =
     record {
       form = Some s.form;
       has_tree = ap Some s.has_tree;
-      has_tokens = ap (λ v. tok.Mark mark.Where ∷ v) s.has_tokens;
+      has_tokens = ap (λ v. terminal.Mark mark.Where ∷ v) s.has_tokens;
       fits = λ (deep, atoms). (let d = s.has_depth in omega arith, s.fits atoms);
     }
 
@@ -49,7 +49,7 @@ semi_filter_for (Some c) =
     record {
       form = Some s.form;
       has_tree = ap Some s.has_tree;
-      has_tokens = ap (λ v. tok.Mark mark.And ∷ v) s.has_tokens;
+      has_tokens = ap (λ v. terminal.Mark mark.And ∷ v) s.has_tokens;
       fits = λ (deep, atoms). (let d = s.has_depth in omega arith, s.fits atoms);
     }
 
@@ -77,17 +77,17 @@ ending_for None = record { form = None; has_tree = refl; has_tokens = refl }
 ending_for (Some (top by direction number)) = record {
   form = Some (top by (said (is_descending direction)) number);
   has_tree = ap (λ b. tail.Top by b number) (said_tree (is_descending direction));
-  has_tokens = ap (λ v. tok.Mark mark.Order ∷ tok.Mark mark.By ∷ (col_tokens by ++ (v ++ (tok.Mark mark.Limit ∷ tok.Number number ∷ [])))) (said_tokens (is_descending direction));
+  has_tokens = ap (λ v. terminal.Mark mark.Order ∷ terminal.Mark mark.By ∷ (col_tokens by ++ (v ++ (terminal.Mark mark.Limit ∷ terminal.Number number ∷ [])))) (said_tokens (is_descending direction));
 }
 ending_for (Some (group front last having)) = record {
   form = Some (group front last having);
   has_tree = refl;
-  has_tokens = ap (λ v. tok.Mark mark.Group ∷ tok.Mark mark.By ∷ v) (sym (append_assoc (each col_tokens front) (col_tokens last) (grammar.having_tokens having)) ∙ ap (λ v. v ++ grammar.having_tokens having) (sym (joined_each col_tokens front last)));
+  has_tokens = ap (λ v. terminal.Mark mark.Group ∷ terminal.Mark mark.By ∷ v) (sym (append_assoc (each col_tokens front) (col_tokens last) (grammar.having_tokens having)) ∙ ap (λ v. v ++ grammar.having_tokens having) (sym (joined_each col_tokens front last)));
 }
 ending_for (Some (skyline front last)) = record {
   form = Some (skyline front last);
   has_tree = refl;
-  has_tokens = ap (λ v. tok.Mark mark.Skyline ∷ tok.Mark mark.Of ∷ v) (sym (joined_each dim_tokens front last));
+  has_tokens = ap (λ v. terminal.Mark mark.Skyline ∷ terminal.Mark mark.Of ∷ v) (sym (joined_each dim_tokens front last));
 }
 
 -- queries
@@ -104,12 +104,12 @@ abbrev selected : Bool → List Item → Source → Option Plain → Tail → Se
 selected distinct items source filter t = record { distinct = distinct; items = items; source = source; filter = filter; tail = t }
 
 -- the items, the source, and what stands behind
-laid : (front : List Item) (last : Item) (between x y : List Tok) → x ≡ y → (items_tokens front last ++ between) ++ x ≡ joined mark.Comma (map item_tokens (front ++ (last ∷ []))) ++ (between ++ y)
+laid : (front : List Item) (last : Item) (between x y : List Terminal) → x ≡ y → (items_tokens front last ++ between) ++ x ≡ joined mark.Comma (map item_tokens (front ++ (last ∷ []))) ++ (between ++ y)
 laid front last between x y e =
     append_assoc (items_tokens front last) between x ∙ ap₂ (λ v w. v ++ (between ++ w)) (sym (joined_each item_tokens front last)) e
 
 -- the same where the source stands in two pieces
-laid_on : (front : List Item) (last : Item) (first second x y : List Tok) → x ≡ y → ((items_tokens front last ++ first) ++ second) ++ x ≡ joined mark.Comma (map item_tokens (front ++ (last ∷ []))) ++ ((first ++ second) ++ y)
+laid_on : (front : List Item) (last : Item) (first second x y : List Terminal) → x ≡ y → ((items_tokens front last ++ first) ++ second) ++ x ≡ joined mark.Comma (map item_tokens (front ++ (last ∷ []))) ++ ((first ++ second) ++ y)
 laid_on front last first second x y e = ap (λ v. v ++ x) (append_assoc (items_tokens front last) first second) ∙ laid front last (first ++ second) x y e
 
 print_distinct : (front : List Item) (last : Item) (table : List ℕ) (filter : Option Pred) → IsForm (grammar.distinct front last table filter) → Printed (grammar.distinct front last table filter)
@@ -120,7 +120,7 @@ print_distinct front last table filter is =
       printed = grammar.distinct front last table f.form;
       is_form = is;
       has_tree = ap (λ v. selected true (front ++ (last ∷ [])) (source.One table) v tail.Nothing) f.has_tree;
-      has_tokens = ap (λ v. tok.Mark mark.Select ∷ tok.Mark mark.Distinct ∷ v) (laid front last (tok.Mark mark.From ∷ tok.Name table ∷ []) _ _ (f.has_tokens ∙ sym (append-nil _)));
+      has_tokens = ap (λ v. terminal.Mark mark.Select ∷ terminal.Mark mark.Distinct ∷ v) (laid front last (terminal.Mark mark.From ∷ terminal.Name table ∷ []) _ _ (f.has_tokens ∙ sym (append-nil _)));
       fits = f.fits;
     }
 
@@ -133,7 +133,7 @@ print_one front last table filter ending =
       printed = grammar.one front last table f.form e.form;
       is_form = tt;
       has_tree = ap₂ (λ v w. selected false (front ++ (last ∷ [])) (source.One table) v w) f.has_tree e.has_tree;
-      has_tokens = ap (λ v. tok.Mark mark.Select ∷ v) (laid front last (tok.Mark mark.From ∷ tok.Name table ∷ []) _ _ (ap₂ (λ v w. v ++ w) f.has_tokens e.has_tokens));
+      has_tokens = ap (λ v. terminal.Mark mark.Select ∷ v) (laid front last (terminal.Mark mark.From ∷ terminal.Name table ∷ []) _ _ (ap₂ (λ v w. v ++ w) f.has_tokens e.has_tokens));
       fits = f.fits;
     }
 
@@ -145,13 +145,13 @@ print_join front last left right first_on second_on filter =
       printed = grammar.join front last left right first_on second_on f.form;
       is_form = tt;
       has_tree = ap (λ v. selected false (front ++ (last ∷ [])) (source.Join left right first_on second_on) v tail.Nothing) f.has_tree;
-      has_tokens = ap (λ v. tok.Mark mark.Select ∷ v) (laid_on front last (tok.Mark mark.From ∷ tok.Name left ∷ []) _ _ _ (f.has_tokens ∙ sym (append-nil _)));
+      has_tokens = ap (λ v. terminal.Mark mark.Select ∷ v) (laid_on front last (terminal.Mark mark.From ∷ terminal.Name left ∷ []) _ _ _ (f.has_tokens ∙ sym (append-nil _)));
       fits = f.fits;
     }
 
 -- the inner select of a semi-join, with its parenthesis
-pub closed : (col : List Tok) (inner : List ℕ) → col ++ (tok.Mark mark.From ∷ tok.Name inner ∷ tok.Mark mark.RightParen ∷ []) ≡ (col ++ (tok.Mark mark.From ∷ tok.Name inner ∷ [])) ++ (tok.Mark mark.RightParen ∷ [])
-closed col inner = sym (append_assoc col (tok.Mark mark.From ∷ tok.Name inner ∷ []) (tok.Mark mark.RightParen ∷ []))
+pub closed : (col : List Terminal) (inner : List ℕ) → col ++ (terminal.Mark mark.From ∷ terminal.Name inner ∷ terminal.Mark mark.RightParen ∷ []) ≡ (col ++ (terminal.Mark mark.From ∷ terminal.Name inner ∷ [])) ++ (terminal.Mark mark.RightParen ∷ [])
+closed col inner = sym (append_assoc col (terminal.Mark mark.From ∷ terminal.Name inner ∷ []) (terminal.Mark mark.RightParen ∷ []))
 
 print_semi : (front : List Item) (last : Item) (outer : List ℕ) (key inner_key : ColumnRef) (inner : List ℕ) (filter : Option Conj) →
     IsForm (grammar.semi front last outer key inner_key inner filter) → Printed (grammar.semi front last outer key inner_key inner filter)
@@ -163,8 +163,8 @@ print_semi front last outer key inner_key inner filter is =
       is_form = is;
       has_tree = ap (λ v. selected false (front ++ (last ∷ [])) (source.Semi outer inner key inner_key) v tail.Nothing) f.has_tree;
       has_tokens =
-          ap (λ v. tok.Mark mark.Select ∷ v) (laid_on front last (tok.Mark mark.From ∷ tok.Name outer ∷ []) _ _ _ (f.has_tokens ∙ sym (append-nil _)))
-          ∙ ap (λ v. tok.Mark mark.Select ∷ (joined mark.Comma (map item_tokens (front ++ (last ∷ []))) ++ ((tok.Mark mark.From ∷ tok.Name outer ∷ tok.Mark mark.Where ∷ (col_tokens key ++ (tok.Mark mark.In ∷ tok.Mark mark.LeftParen ∷ tok.Mark mark.Select ∷ v))) ++ (where_tokens true (option_map conj_tree filter) ++ []))))
+          ap (λ v. terminal.Mark mark.Select ∷ v) (laid_on front last (terminal.Mark mark.From ∷ terminal.Name outer ∷ []) _ _ _ (f.has_tokens ∙ sym (append-nil _)))
+          ∙ ap (λ v. terminal.Mark mark.Select ∷ (joined mark.Comma (map item_tokens (front ++ (last ∷ []))) ++ ((terminal.Mark mark.From ∷ terminal.Name outer ∷ terminal.Mark mark.Where ∷ (col_tokens key ++ (terminal.Mark mark.In ∷ terminal.Mark mark.LeftParen ∷ terminal.Mark mark.Select ∷ v))) ++ (where_tokens true (option_map conj_tree filter) ++ []))))
           (closed (col_tokens inner_key) inner);
       fits = f.fits;
     }
@@ -175,12 +175,12 @@ printed_form (grammar.join front last left right first_on second_on filter) is =
 printed_form (grammar.semi front last outer key inner_key inner filter) is = print_semi front last outer key inner_key inner filter is
 printed_form (grammar.one front last table filter ending) is = print_one front last table filter ending
 
-pub derived : (tokens : List Tok) (q : Select) → IsQuery tokens q → IsQuery (printed_tokens q) q
+pub derived : (tokens : List Terminal) (q : Select) → IsQuery tokens q → IsQuery (printed_tokens q) q
 derived tokens q h =
     let p = printed_form h.form h.is_form in
     record { form = p.printed; is_form = p.is_form; spelled = inl (ap printed_tokens h.stands_for ∙ sym p.has_tokens); stands_for = h.stands_for ∙ sym p.has_tree }
 
-pub derived_within : (tokens : List Tok) (q : Select) → IsQueryWithin tokens q → IsQueryWithin (printed_tokens q) q
+pub derived_within : (tokens : List Terminal) (q : Select) → IsQueryWithin tokens q → IsQueryWithin (printed_tokens q) q
 derived_within tokens q h =
     let p = printed_form h.form h.is_form in
     record { form = p.printed; is_form = p.is_form; fits = p.fits h.fits; spelled = inl (ap printed_tokens h.stands_for ∙ sym p.has_tokens); stands_for = h.stands_for ∙ sym p.has_tree }

@@ -2,9 +2,9 @@
 use Rattle.std.proofs.Common.{◌≡◌, ℕ, ◌+◌, ◌<◌, ◌==◌, Bool, true, false, List, [], ◌∷◌, ◌++◌, length, drop, get_or, Result, Ok, Err, OnOk, refl, sym, ap, ◌∙◌, append_assoc, append-nil, if◌then◌else◌}
 use Rattle.ch_sql_tokens.specs.Spelling.{doubled, in_quotes}
 use Rattle.ch_sql_tokens.proofs.QuoteRules.{dropped}
-use Rattle.ch_sql_grammar.specs.declared.tok.Mark.{Mark}
-use Rattle.ch_sql_grammar.specs.declared.tok.Mark.TheVariants as mark
-use Rattle.ch_sql_grammar.specs.declared.tok.Tok.{Tok}
+use Rattle.ch_sql_grammar.specs.declared.terminal.Mark.{Mark}
+use Rattle.ch_sql_grammar.specs.declared.terminal.Mark.TheVariants as mark
+use Rattle.ch_sql_grammar.specs.declared.terminal.Terminal.{Terminal}
 use Rattle.ch_sql_grammar.specs.declared.query.Pred.TheVariants as pred
 use Rattle.ch_sql_grammar.specs.declared.query.Pred.TheOpen as layer
 use Rattle.ch_sql_grammar.specs.declared.query.Pred.TheFolds.{fold-roll-Pred}
@@ -13,23 +13,23 @@ use Rattle.ch_sql_text.specs.Layout.{gap, laid_out}
 use Rattle.ch_sql_text.specs.Printed.{when, marked_off, in_parens}
 use Rattle.ch_sql_text.specs.Writing.{Written, put, puts}
 
-pub puts-append : (w : Written) (xs ys : List Tok) → puts w (xs ++ ys) ≡ puts (puts w xs) ys
+pub puts-append : (w : Written) (xs ys : List Terminal) → puts w (xs ++ ys) ≡ puts (puts w xs) ys
 puts-append w [] ys = refl
 puts-append w (x ∷ xs) ys = puts-append (put w x) xs ys
 
 pub ruleset put_rules = (puts-append)
 
 -- the text that writing tokens gives
-puts_step : (w : Written) (t : Tok) (ts : List Tok) → (puts (put w t) ts).text ≡ (put w t).text ++ laid_out (put w t).last ts → (puts (put w t) ts).text ≡ w.text ++ laid_out w.last (t ∷ ts)
+puts_step : (w : Written) (t : Terminal) (ts : List Terminal) → (puts (put w t) ts).text ≡ (put w t).text ++ laid_out (put w t).last ts → (puts (put w t) ts).text ≡ w.text ++ laid_out w.last (t ∷ ts)
 unfolding put
 puts_step w t ts e = e ∙ append_assoc w.text _ _ ∙ ap (λ x. w.text ++ x) (append_assoc (gap w.last t) _ _)
 
-pub puts_text : (w : Written) (ts : List Tok) → (puts w ts).text ≡ w.text ++ laid_out w.last ts
+pub puts_text : (w : Written) (ts : List Terminal) → (puts w ts).text ≡ w.text ++ laid_out w.last ts
 puts_text w [] = sym (append-nil w.text)
 puts_text w (t ∷ ts) = puts_step w t ts (puts_text (put w t) ts)
 
 -- parentheses, or none
-pub parens_written : (a b : Bool) (ts : List Tok) (w x y z : Written) → a ≡ b → x ≡ puts w (when a mark.LeftParen) → y ≡ puts x ts → z ≡ puts y (when a mark.RightParen) → z ≡ puts w (in_parens b ts)
+pub parens_written : (a b : Bool) (ts : List Terminal) (w x y z : Written) → a ≡ b → x ≡ puts w (when a mark.LeftParen) → y ≡ puts x ts → z ≡ puts y (when a mark.RightParen) → z ≡ puts w (in_parens b ts)
 parens_written a b ts w x y z e f g h =
     h ∙ ap (λ v. puts v (when a mark.RightParen)) (g ∙ ap (λ v. puts v ts) f)
     ∙ sym (puts-append (puts w (when a mark.LeftParen)) ts (when a mark.RightParen))
@@ -37,7 +37,7 @@ parens_written a b ts w x y z e f g h =
     ∙ ap (λ v. puts w (in_parens v ts)) e
 
 -- one more of a list, in the tokens that its elements give
-pub list_step : {A : Type 0} → (parts : List A → List (List Tok)) (part : A → List Tok) → ((y : A) (ys : List A) → parts (y ∷ ys) ≡ part y ∷ parts ys) →
+pub list_step : {A : Type 0} → (parts : List A → List (List Terminal)) (part : A → List Terminal) → ((y : A) (ys : List A) → parts (y ∷ ys) ≡ part y ∷ parts ys) →
     (xs : List A) (i : ℕ) (item : A) (b : Bool) (m : Mark) (w x y : Written) → i < length xs → item ≡ get_or xs i item → x ≡ puts w (when b m) → y ≡ puts x (part item) →
     puts y (marked_off true m (parts (drop (i + 1) xs))) ≡ puts w (marked_off b m (parts (drop i xs)))
 list_step parts part step xs i item b m w x y lt is e f =

@@ -7,14 +7,14 @@ use Rattle.ch_sql_tokens.specs.declared.token.Token.TheVariants as token
 use Rattle.ch_sql_tokens.specs.Spelling.{is_word, IsToken}
 use Rattle.ch_sql_tokens.specs.Lexed.{IsQueryText}
 use Rattle.ch_sql_tokens.proofs.Lexing.{scans_tokens}
-use Rattle.ch_sql_grammar.specs.declared.tok.Mark.{Mark}
-use Rattle.ch_sql_grammar.specs.declared.tok.Mark.TheVariants as mark
-use Rattle.ch_sql_grammar.specs.declared.tok.Tok.{Tok}
-use Rattle.ch_sql_grammar.specs.declared.tok.Tok.TheVariants as tok
+use Rattle.ch_sql_grammar.specs.declared.terminal.Mark.{Mark}
+use Rattle.ch_sql_grammar.specs.declared.terminal.Mark.TheVariants as mark
+use Rattle.ch_sql_grammar.specs.declared.terminal.Terminal.{Terminal}
+use Rattle.ch_sql_grammar.specs.declared.terminal.Terminal.TheVariants as terminal
 use Rattle.ch_sql_grammar.specs.declared.query.ColumnRef.{ColumnRef}
 use Rattle.ch_sql_grammar.specs.declared.query.Item.{Item}
 use Rattle.ch_sql_grammar.specs.Keyword.{keyword_of}
-use Rattle.ch_sql_grammar.specs.Tokens.{tok_of, word_tok}
+use Rattle.ch_sql_grammar.specs.Tokens.{terminal_of, word_terminal}
 use Rattle.ch_sql_grammar.specs.Tree.{Plain, plains, all_of, any_of, Select}
 use Rattle.ch_sql_grammar.specs.Grammar as grammar
 use Rattle.ch_sql_grammar.specs.Grammar.{Pred, conj, or, Conj, neg, and, Neg, parens, atom, Form, IsQuery, Ending, top, group, skyline, each, col_tokens, item_tokens, dim_tokens, items_tokens, direction_tokens, endings_tokens, endings_tree, is_descending, form_tokens, form_tree, pred_tokens, conj_tokens, neg_tokens, atom_tokens, atom_tree, conj_trees, neg_trees, neg_tree, pred_tree, conj_tree}
@@ -27,14 +27,14 @@ use Rattle.ch_sql_text.proofs.Derived.{within_tokens}
 use Rattle.ch_sql_text.proofs.Forms.{closed, derived_within}
 use Rattle.ch_sql_text.proofs.Rescan.{lexed, all_seen, are_tokens}
 
-abbrev pub AreSpellable : List Tok → Type 0
+abbrev pub AreSpellable : List Terminal → Type 0
 AreSpellable ts = AllByRecursion IsSpellable ts
 
-together : (xs ys : List Tok) → AreSpellable xs → AreSpellable ys → AreSpellable (xs ++ ys)
+together : (xs ys : List Terminal) → AreSpellable xs → AreSpellable ys → AreSpellable (xs ++ ys)
 together [] ys a b = b
 together (x ∷ xs) ys (is, a) b = (is, together xs ys a b)
 
-apart : (xs ys : List Tok) → AreSpellable (xs ++ ys) → AreSpellable xs × AreSpellable ys
+apart : (xs ys : List Terminal) → AreSpellable (xs ++ ys) → AreSpellable xs × AreSpellable ys
 apart [] ys a = (tt, a)
 apart (x ∷ xs) ys (is, a) = let r = apart xs ys a in ((is, r.0), r.1)
 
@@ -42,14 +42,14 @@ mark_spellable : (b : Bool) (m : Mark) → AreSpellable (when b m)
 mark_spellable true m = (tt, tt)
 mark_spellable false m = tt
 
-parens_spellable : (b : Bool) (ts : List Tok) → AreSpellable ts → AreSpellable (in_parens b ts)
+parens_spellable : (b : Bool) (ts : List Terminal) → AreSpellable ts → AreSpellable (in_parens b ts)
 parens_spellable b ts a = together (when b mark.LeftParen) _ (mark_spellable b mark.LeftParen) (together ts _ a (mark_spellable b mark.RightParen))
 
 -- each list of a list
-abbrev EachSpellable : List (List Tok) → Type 0
+abbrev EachSpellable : List (List Terminal) → Type 0
 EachSpellable xs = AllByRecursion AreSpellable xs
 
-marked_spellable : (b : Bool) (m : Mark) (xs : List (List Tok)) → EachSpellable xs → AreSpellable (marked_off b m xs)
+marked_spellable : (b : Bool) (m : Mark) (xs : List (List Terminal)) → EachSpellable xs → AreSpellable (marked_off b m xs)
 marked_spellable b m [] a = tt
 marked_spellable b m (x ∷ xs) (is, a) = together (when b m) _ (mark_spellable b m) (together x _ is (marked_spellable true m xs a))
 
@@ -90,18 +90,18 @@ mutual
   pred_spellable : (p : Pred) → AreSpellable (pred_tokens p) → TreesSpellable (conj_trees p)
   pred_spellable (conj c) h = (all_of_spellable (neg_trees c) (conj_spellable c h), tt)
   pred_spellable (or p c) h =
-      let r = apart (pred_tokens p) (tok.Mark mark.Or ∷ conj_tokens c) h in
+      let r = apart (pred_tokens p) (terminal.Mark mark.Or ∷ conj_tokens c) h in
       trees_together (conj_trees p) (conj_tree c ∷ []) (pred_spellable p r.0) (all_of_spellable (neg_trees c) (conj_spellable c r.1.1), tt)
 
   conj_spellable : (c : Conj) → AreSpellable (conj_tokens c) → TreesSpellable (neg_trees c)
   conj_spellable (neg n) h = (neg_spellable n h, tt)
   conj_spellable (and c n) h =
-      let r = apart (conj_tokens c) (tok.Mark mark.And ∷ neg_tokens n) h in
+      let r = apart (conj_tokens c) (terminal.Mark mark.And ∷ neg_tokens n) h in
       trees_together (neg_trees c) (neg_tree n ∷ []) (conj_spellable c r.0) (neg_spellable n r.1.1, tt)
 
   neg_spellable : (n : Neg) → AreSpellable (neg_tokens n) → AreSpellable (filter_tokens (neg_tree n))
   neg_spellable (grammar.not n) h = (tt, parens_spellable (is_and_or (neg_tree n)) (filter_tokens (neg_tree n)) (neg_spellable n h.1))
-  neg_spellable (parens p) h = any_of_spellable (conj_trees p) (pred_spellable p (apart (pred_tokens p) (tok.Mark mark.RightParen ∷ []) h.1).0)
+  neg_spellable (parens p) h = any_of_spellable (conj_trees p) (pred_spellable p (apart (pred_tokens p) (terminal.Mark mark.RightParen ∷ []) h.1).0)
   neg_spellable (atom a) h = atom_spellable a h
 
 -- queries
@@ -114,14 +114,14 @@ and_filter_spellable : (filter : Option Conj) → AreSpellable (grammar.and_toke
 and_filter_spellable None h = tt
 and_filter_spellable (Some c) h = (tt, parens_spellable (is_or (conj_tree c)) (filter_tokens (conj_tree c)) (all_of_spellable (neg_trees c) (conj_spellable c h.1)))
 
-list_spellable : {A : Type 0} → (f : A → List Tok) (front : List A) (last : A) → AreSpellable (each f front ++ f last) → AreSpellable (joined mark.Comma (map f (front ++ (last ∷ []))))
+list_spellable : {A : Type 0} → (f : A → List Terminal) (front : List A) (last : A) → AreSpellable (each f front ++ f last) → AreSpellable (joined mark.Comma (map f (front ++ (last ∷ []))))
 list_spellable f front last h = subst AreSpellable (sym (joined_each f front last)) h
 
 ending_spellable : (e : Option Ending) → AreSpellable (endings_tokens e) → AreSpellable (tail_tokens (endings_tree e))
 ending_spellable None h = tt
 ending_spellable (Some (top by direction number)) h =
-    let r = apart (col_tokens by) (direction_tokens direction ++ (tok.Mark mark.Limit ∷ tok.Number number ∷ [])) h.1.1 in
-    let s = apart (direction_tokens direction) (tok.Mark mark.Limit ∷ tok.Number number ∷ []) r.1 in
+    let r = apart (col_tokens by) (direction_tokens direction ++ (terminal.Mark mark.Limit ∷ terminal.Number number ∷ [])) h.1.1 in
+    let s = apart (direction_tokens direction) (terminal.Mark mark.Limit ∷ terminal.Number number ∷ []) r.1 in
     (tt, (tt, together (col_tokens by) _ r.0 (together (when (is_descending direction) mark.Desc) _ (mark_spellable (is_descending direction) mark.Desc) s.1)))
 ending_spellable (Some (group front last having)) h =
     let r = apart (each col_tokens front) (col_tokens last ++ grammar.having_tokens having) h.1.1 in
@@ -130,7 +130,7 @@ ending_spellable (Some (group front last having)) h =
 ending_spellable (Some (skyline front last)) h = (tt, (tt, list_spellable dim_tokens front last h.1.1))
 
 -- items, a source and what stands behind
-pieces : (front : List Item) (last : Item) (between x y : List Tok) → (AreSpellable x → AreSpellable y) → AreSpellable ((items_tokens front last ++ between) ++ x) →
+pieces : (front : List Item) (last : Item) (between x y : List Terminal) → (AreSpellable x → AreSpellable y) → AreSpellable ((items_tokens front last ++ between) ++ x) →
     AreSpellable (joined mark.Comma (map item_tokens (front ++ (last ∷ []))) ++ (between ++ y))
 pieces front last between x y f h =
     let r = apart (items_tokens front last ++ between) x h in
@@ -138,7 +138,7 @@ pieces front last between x y f h =
     together _ (between ++ y) (list_spellable item_tokens front last s.0) (together between y s.1 (f r.1))
 
 -- the same where the source stands in two pieces
-pieces_on : (front : List Item) (last : Item) (first second third x y : List Tok) → (AreSpellable second → AreSpellable third) → (AreSpellable x → AreSpellable y) → AreSpellable (((items_tokens front last ++ first) ++ second) ++ x) →
+pieces_on : (front : List Item) (last : Item) (first second third x y : List Terminal) → (AreSpellable second → AreSpellable third) → (AreSpellable x → AreSpellable y) → AreSpellable (((items_tokens front last ++ first) ++ second) ++ x) →
     AreSpellable (joined mark.Comma (map item_tokens (front ++ (last ∷ []))) ++ ((first ++ third) ++ y))
 pieces_on front last first second third x y g f h =
     let r = apart ((items_tokens front last ++ first) ++ second) x h in
@@ -146,54 +146,54 @@ pieces_on front last first second third x y g f h =
     let t = apart (items_tokens front last) first s.0 in
     together _ ((first ++ third) ++ y) (list_spellable item_tokens front last t.0) (together (first ++ third) y (together first third t.1 (g s.1)) (f r.1))
 
-abbrev joined_on : List ℕ → ColumnRef → ColumnRef → List Tok
-joined_on right first_on second_on = tok.Mark mark.Join ∷ tok.Name right ∷ tok.Mark mark.On ∷ (col_tokens first_on ++ (tok.Mark mark.Eq ∷ col_tokens second_on))
+abbrev joined_on : List ℕ → ColumnRef → ColumnRef → List Terminal
+joined_on right first_on second_on = terminal.Mark mark.Join ∷ terminal.Name right ∷ terminal.Mark mark.On ∷ (col_tokens first_on ++ (terminal.Mark mark.Eq ∷ col_tokens second_on))
 
-abbrev inner_select : ColumnRef → ColumnRef → List ℕ → List Tok
-inner_select key inner_key inner = tok.Mark mark.Where ∷ (col_tokens key ++ (tok.Mark mark.In ∷ in_parens true (tok.Mark mark.Select ∷ (col_tokens inner_key ++ (tok.Mark mark.From ∷ tok.Name inner ∷ [])))))
+abbrev inner_select : ColumnRef → ColumnRef → List ℕ → List Terminal
+inner_select key inner_key inner = terminal.Mark mark.Where ∷ (col_tokens key ++ (terminal.Mark mark.In ∷ in_parens true (terminal.Mark mark.Select ∷ (col_tokens inner_key ++ (terminal.Mark mark.From ∷ terminal.Name inner ∷ [])))))
 
 inner_spellable : (key inner_key : ColumnRef) (inner : List ℕ) →
-    AreSpellable (tok.Mark mark.Where ∷ (col_tokens key ++ (tok.Mark mark.In ∷ tok.Mark mark.LeftParen ∷ tok.Mark mark.Select ∷ (col_tokens inner_key ++ (tok.Mark mark.From ∷ tok.Name inner ∷ tok.Mark mark.RightParen ∷ []))))) →
+    AreSpellable (terminal.Mark mark.Where ∷ (col_tokens key ++ (terminal.Mark mark.In ∷ terminal.Mark mark.LeftParen ∷ terminal.Mark mark.Select ∷ (col_tokens inner_key ++ (terminal.Mark mark.From ∷ terminal.Name inner ∷ terminal.Mark mark.RightParen ∷ []))))) →
     AreSpellable (inner_select key inner_key inner)
 inner_spellable key inner_key inner h =
-    subst (λ v. AreSpellable (tok.Mark mark.Where ∷ (col_tokens key ++ (tok.Mark mark.In ∷ tok.Mark mark.LeftParen ∷ tok.Mark mark.Select ∷ v)))) (closed (col_tokens inner_key) inner) h
+    subst (λ v. AreSpellable (terminal.Mark mark.Where ∷ (col_tokens key ++ (terminal.Mark mark.In ∷ terminal.Mark mark.LeftParen ∷ terminal.Mark mark.Select ∷ v)))) (closed (col_tokens inner_key) inner) h
 
 pub form_spellable : (form : Form) → AreSpellable (form_tokens form) → AreSpellable (printed_tokens (form_tree form))
 unfolding printed_tokens
 form_spellable (grammar.distinct front last table filter) h =
-    (tt, (tt, pieces front last (tok.Mark mark.From ∷ tok.Name table ∷ []) _ _ (λ f. together _ [] (where_spellable filter f) tt) h.1.1))
+    (tt, (tt, pieces front last (terminal.Mark mark.From ∷ terminal.Name table ∷ []) _ _ (λ f. together _ [] (where_spellable filter f) tt) h.1.1))
 form_spellable (grammar.join front last left right first_on second_on filter) h =
-    (tt, pieces_on front last (tok.Mark mark.From ∷ tok.Name left ∷ []) (joined_on right first_on second_on) (joined_on right first_on second_on) _ _ (λ s. s) (λ f. together _ [] (where_spellable filter f) tt) h.1)
+    (tt, pieces_on front last (terminal.Mark mark.From ∷ terminal.Name left ∷ []) (joined_on right first_on second_on) (joined_on right first_on second_on) _ _ (λ s. s) (λ f. together _ [] (where_spellable filter f) tt) h.1)
 form_spellable (grammar.semi front last outer key inner_key inner filter) h =
-    (tt, pieces_on front last (tok.Mark mark.From ∷ tok.Name outer ∷ []) _ (inner_select key inner_key inner) _ _ (inner_spellable key inner_key inner) (λ f. together _ [] (and_filter_spellable filter f) tt) h.1)
+    (tt, pieces_on front last (terminal.Mark mark.From ∷ terminal.Name outer ∷ []) _ (inner_select key inner_key inner) _ _ (inner_spellable key inner_key inner) (λ f. together _ [] (and_filter_spellable filter f) tt) h.1)
 form_spellable (grammar.one front last table filter ending) h =
-    (tt, pieces front last (tok.Mark mark.From ∷ tok.Name table ∷ []) _ _ (λ f. let r = apart (grammar.where_tokens filter) (endings_tokens ending) f in together _ _ (where_spellable filter r.0) (ending_spellable ending r.1)) h.1)
+    (tt, pieces front last (terminal.Mark mark.From ∷ terminal.Name table ∷ []) _ _ (λ f. let r = apart (grammar.where_tokens filter) (endings_tokens ending) f in together _ _ (where_spellable filter r.0) (ending_spellable ending r.1)) h.1)
 
 -- tokens as the lexer makes them
 
-word_spellable : (w : List ℕ) (o : Option Mark) → is_word w ≡ true → IsSpellable (word_tok o w)
+word_spellable : (w : List ℕ) (o : Option Mark) → is_word w ≡ true → IsSpellable (word_terminal o w)
 word_spellable w (Some m) is = tt
 word_spellable w None is = λ e. (let f = ap is_word e in cc)
 
-tok_spellable : (t : Token) → IsToken t → IsSpellable (tok_of t)
-tok_spellable (token.Word w) is = word_spellable w (keyword_of w) is
-tok_spellable (token.Quoted name) is = is
-tok_spellable (token.Number n) is = is
-tok_spellable (token.Text text) is = tt
-tok_spellable (token.Symbol s) is = tt
+terminal_spellable : (t : Token) → IsToken t → IsSpellable (terminal_of t)
+terminal_spellable (token.Word w) is = word_spellable w (keyword_of w) is
+terminal_spellable (token.Quoted name) is = is
+terminal_spellable (token.Number n) is = is
+terminal_spellable (token.Text text) is = tt
+terminal_spellable (token.Symbol s) is = tt
 
-toks_spellable : (ts : List Token) → AllByRecursion IsToken ts → AreSpellable (map tok_of ts)
+toks_spellable : (ts : List Token) → AllByRecursion IsToken ts → AreSpellable (map terminal_of ts)
 toks_spellable [] all = tt
-toks_spellable (t ∷ ts) (is, all) = (tok_spellable t is, toks_spellable ts all)
+toks_spellable (t ∷ ts) (is, all) = (terminal_spellable t is, toks_spellable ts all)
 
-query_spellable : (tokens : List Tok) (form : Form) → (tokens ≡ form_tokens form) ⊎ (tokens ≡ form_tokens form ++ (tok.Mark mark.Semicolon ∷ [])) → AreSpellable tokens → AreSpellable (printed_tokens (form_tree form))
+query_spellable : (tokens : List Terminal) (form : Form) → (tokens ≡ form_tokens form) ⊎ (tokens ≡ form_tokens form ++ (terminal.Mark mark.Semicolon ∷ [])) → AreSpellable tokens → AreSpellable (printed_tokens (form_tree form))
 query_spellable tokens form (inl e) h = form_spellable form (subst AreSpellable e h)
 query_spellable tokens form (inr e) h = form_spellable form (apart (form_tokens form) _ (subst AreSpellable e h)).0
 
-spelled_again : (tokens : List Token) (form : Form) (q : Select) → All IsToken tokens → (map tok_of tokens ≡ form_tokens form) ⊎ (map tok_of tokens ≡ form_tokens form ++ (tok.Mark mark.Semicolon ∷ [])) → q ≡ form_tree form →
+spelled_again : (tokens : List Token) (form : Form) (q : Select) → All IsToken tokens → (map terminal_of tokens ≡ form_tokens form) ⊎ (map terminal_of tokens ≡ form_tokens form ++ (terminal.Mark mark.Semicolon ∷ [])) → q ≡ form_tree form →
     All IsSpellable (printed_tokens q)
 spelled_again tokens form q all s e =
-    All-from_recursion IsSpellable (printed_tokens q) (subst (λ t. AreSpellable (printed_tokens t)) (sym e) (query_spellable (map tok_of tokens) form s (toks_spellable tokens (recursion_from_All IsToken tokens all))))
+    All-from_recursion IsSpellable (printed_tokens q) (subst (λ t. AreSpellable (printed_tokens t)) (sym e) (query_spellable (map terminal_of tokens) form s (toks_spellable tokens (recursion_from_All IsToken tokens all))))
 
 pub read_again : (tokens : List Token) (q : Select) → All IsToken tokens → IsQueryWithin (seen tokens) q → IsQueryText (query_text q) → Spells (query_text q) q
 read_again tokens q all h short =
@@ -202,5 +202,5 @@ read_again tokens q all h short =
       tokens = text_tokens q;
       short = short;
       lexed = (scans_tokens (query_text q) (Ok (text_tokens q)) short (lexed (printed_tokens q) spelled)).1;
-      derived = subst (λ ts. IsQueryWithin ts q) (sym (all_seen (printed_tokens q))) (derived_within (map tok_of tokens) q h);
+      derived = subst (λ ts. IsQueryWithin ts q) (sym (all_seen (printed_tokens q))) (derived_within (map terminal_of tokens) q h);
     }

@@ -3,18 +3,18 @@ use Rattle.std.specs.Prelude.{◌≤◌, ◌≢◌, List, [], map}
 use Rattle.std.specs.Int.RustNames.{unsigned_abs}
 use Rattle.ch_cells.specs.Number.{most}
 use Rattle.ch_sql_tokens.specs.declared.token.Token.{Token}
-use Rattle.ch_sql_grammar.specs.declared.tok.Tok.{Tok}
-use Rattle.ch_sql_grammar.specs.declared.tok.Tok.TheVariants as tok
+use Rattle.ch_sql_grammar.specs.declared.terminal.Terminal.{Terminal}
+use Rattle.ch_sql_grammar.specs.declared.terminal.Terminal.TheVariants as terminal
 use Rattle.ch_sql_grammar.specs.Tree.{Select}
 use Rattle.ch_sql_text.specs.Spelled.{printed_token}
 use Rattle.ch_sql_text.specs.Printed.{printed_tokens}
 
 -- A name isn't empty, and a number is in the range of cells.
-abbrev pub IsSpellable : Tok → Type 0
-IsSpellable (tok.Mark m) = Unit {0}
-IsSpellable (tok.Name name) = name ≢ []
-IsSpellable (tok.Number n) = unsigned_abs n ≤ most
-IsSpellable (tok.Text text) = Unit {0}
+abbrev pub IsSpellable : Terminal → Type 0
+IsSpellable (terminal.Mark m) = Unit {0}
+IsSpellable (terminal.Name name) = name ≢ []
+IsSpellable (terminal.Number n) = unsigned_abs n ≤ most
+IsSpellable (terminal.Text text) = Unit {0}
 
 -- the tokens that stand in the query's text
 abbrev pub text_tokens : Select → List Token

@@ -4,10 +4,10 @@ use Rattle.ch_sql_tokens.specs.declared.token.Token.{Token}
 use Rattle.ch_sql_tokens.specs.declared.token.Token.TheVariants as token
 use Rattle.ch_sql_tokens.specs.declared.token.Symbol.TheVariants as symbol
 use Rattle.ch_sql_tokens.specs.Spelling.{is_word}
-use Rattle.ch_sql_grammar.specs.declared.tok.Mark.{Mark}
-use Rattle.ch_sql_grammar.specs.declared.tok.Mark.TheVariants as mark
-use Rattle.ch_sql_grammar.specs.declared.tok.Tok.{Tok}
-use Rattle.ch_sql_grammar.specs.declared.tok.Tok.TheVariants as tok
+use Rattle.ch_sql_grammar.specs.declared.terminal.Mark.{Mark}
+use Rattle.ch_sql_grammar.specs.declared.terminal.Mark.TheVariants as mark
+use Rattle.ch_sql_grammar.specs.declared.terminal.Terminal.{Terminal}
+use Rattle.ch_sql_grammar.specs.declared.terminal.Terminal.TheVariants as terminal
 use Rattle.ch_sql_grammar.specs.Keyword.{keyword_of}
 
 -- a keyword is a word in capitals
@@ -58,8 +58,8 @@ is_bare name = is_word name && is_none (keyword_of name)
 abbrev pub name_token : List ℕ → Token
 name_token name = if is_bare name then token.Word name else token.Quoted name
 
-abbrev pub printed_token : Tok → Token
-printed_token (tok.Mark m) = mark_token m
-printed_token (tok.Name name) = name_token name
-printed_token (tok.Number n) = token.Number n
-printed_token (tok.Text text) = token.Text text
+abbrev pub printed_token : Terminal → Token
+printed_token (terminal.Mark m) = mark_token m
+printed_token (terminal.Name name) = name_token name
+printed_token (terminal.Number n) = token.Number n
+printed_token (terminal.Text text) = token.Text text

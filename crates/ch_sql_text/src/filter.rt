@@ -1,5 +1,5 @@
 ghost use Rattle.std.specs.Prelude.{◌≡◌, OnOk, map};
-ghost use Rattle.ch_sql_grammar.specs.declared.tok.Mark.TheVariants as mark;
+ghost use Rattle.ch_sql_grammar.specs.declared.terminal.Mark.TheVariants as mark;
 ghost use Rattle.ch_sql_grammar.specs.Grammar.{cmp_mark, side_tokens};
 ghost use Rattle.ch_sql_grammar.specs.Tree.{plain_of, plains, Compare, Between, Within, Like};
 ghost use Rattle.ch_sql_text.specs.Printed.{and_members, filter_tokens, is_and_or, is_or, joined, or_members};

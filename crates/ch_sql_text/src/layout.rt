@@ -1,5 +1,5 @@
 ghost use Rattle.std.specs.Prelude.{◌≡◌};
-ghost use Rattle.ch_sql_grammar.specs.declared.tok.Tok.TheVariants as tok;
+ghost use Rattle.ch_sql_grammar.specs.declared.terminal.Terminal.TheVariants as terminal;
 ghost use Rattle.ch_sql_text.specs.Layout.{is_spaced, last_mark};
 
 use ch_sql_grammar::Mark;
@@ -26,7 +26,7 @@ pub fn last_after(mark: Mark) -> Last
 
 /// Whether a space stands before the mark.
 pub fn is_mark_spaced(last: Last, mark: Mark) -> bool
-    ensures { result ≡ is_spaced last (tok.Mark mark) }
+    ensures { result ≡ is_spaced last (terminal.Mark mark) }
 {
     match mark {
         Mark::Comma | Mark::RightParen | Mark::Dot => false,

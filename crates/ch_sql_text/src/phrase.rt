@@ -1,6 +1,6 @@
 ghost use Rattle.std.specs.Prelude.{◌≡◌, List, OnOk, map};
-ghost use Rattle.ch_sql_grammar.specs.declared.tok.Mark.TheVariants as mark;
-ghost use Rattle.ch_sql_grammar.specs.declared.tok.Tok.{Tok};
+ghost use Rattle.ch_sql_grammar.specs.declared.terminal.Mark.TheVariants as mark;
+ghost use Rattle.ch_sql_grammar.specs.declared.terminal.Terminal.{Terminal};
 ghost use Rattle.ch_sql_grammar.specs.Grammar.{col_tokens, extreme_tokens, item_tokens, dim_tokens};
 ghost use Rattle.ch_sql_text.specs.Printed.{joined, literal_tokens};
 ghost use Rattle.ch_sql_text.specs.Writing.{puts};
@@ -13,7 +13,7 @@ use ch_sql_grammar::{ColumnRef, Item, Mark, SkyDim};
 /// A part of a query that stands in a list.
 pub trait Phrase {
     /// Its tokens.
-    ghost tokens: { Self → List Tok };
+    ghost tokens: { Self → List Terminal };
 
     fn write(&self, writer: &mut Writer) -> Result<(), Memory>
         ensures { OnOk result (writer.new ≡ puts writer.old (tokens self.now)) };

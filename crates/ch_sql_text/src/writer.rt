@@ -25,7 +25,7 @@ impl Model for Writer {
 }
 
 impl Writer {
-    ghost use Rattle.ch_sql_grammar.specs.declared.tok.Tok.TheVariants as tok;
+    ghost use Rattle.ch_sql_grammar.specs.declared.terminal.Terminal.TheVariants as terminal;
     ghost use Rattle.ch_sql_text.specs.declared.layout.Last.TheVariants as last;
     ghost use Rattle.ch_sql_text.specs.Printed.{when};
     ghost use Rattle.ch_sql_text.specs.Writing.{put, puts};
@@ -48,7 +48,7 @@ impl Writer {
 
     #[tactic(auto, unfolding(crate::specs::Writing::put))]
     pub fn mark(&mut self, mark: Mark) -> Result<(), Memory>
-        ensures { OnOk result (self.new ≡ put self.old (tok.Mark mark)) }
+        ensures { OnOk result (self.new ≡ put self.old (terminal.Mark mark)) }
     {
         put_space(&mut self.text, is_mark_spaced(self.last, mark))?;
         self.text.extend_from_slice(mark_text(mark).as_bytes())?;
@@ -65,7 +65,7 @@ impl Writer {
 
     #[tactic(auto, unfolding(crate::specs::Writing::put))]
     pub fn name(&mut self, name: &Bytes) -> Result<(), Memory>
-        ensures { OnOk result (self.new ≡ put self.old (tok.Name name.now)) }
+        ensures { OnOk result (self.new ≡ put self.old (terminal.Name name.now)) }
     {
         put_space(&mut self.text, self.last != Last::Open)?;
         put_name(&mut self.text, name.as_slice())?;
@@ -75,7 +75,7 @@ impl Writer {
 
     #[tactic(auto, unfolding(crate::specs::Writing::put))]
     pub fn number(&mut self, n: i64) -> Result<(), Memory>
-        ensures { OnOk result (self.new ≡ put self.old (tok.Number n)) }
+        ensures { OnOk result (self.new ≡ put self.old (terminal.Number n)) }
     {
         put_space(&mut self.text, self.last != Last::Open)?;
         let mut digits = Buffer::new();
@@ -86,7 +86,7 @@ impl Writer {
 
     #[tactic(auto, unfolding(crate::specs::Writing::put))]
     pub fn text(&mut self, text: &Bytes) -> Result<(), Memory>
-        ensures { OnOk result (self.new ≡ put self.old (tok.Text text.now)) }
+        ensures { OnOk result (self.new ≡ put self.old (terminal.Text text.now)) }
     {
         put_space(&mut self.text, self.last != Last::Open)?;
         put_quoted(&mut self.text, b'\'', text.as_slice())?;
@@ -97,7 +97,7 @@ impl Writer {
     /// The text of a prefix and a percent sign.
     #[tactic(auto, unfolding(crate::specs::Writing::put))]
     pub fn pattern(&mut self, prefix: &Bytes) -> Result<(), Memory>
-        ensures { OnOk result (self.new ≡ put self.old (tok.Text (prefix.now ++ 37 ∷ []))) }
+        ensures { OnOk result (self.new ≡ put self.old (terminal.Text (prefix.now ++ 37 ∷ []))) }
     {
         put_space(&mut self.text, self.last != Last::Open)?;
         put_pattern(&mut self.text, prefix.as_slice())?;

@@ -1,5 +1,5 @@
 use Rattle.std.proofs.Common.{◌≡◌, ◌∙◌, [], true, false, not, ap, refl, arith}
-use Rattle.ch_sql_grammar.specs.declared.tok.Mark.TheVariants as mark
+use Rattle.ch_sql_grammar.specs.declared.terminal.Mark.TheVariants as mark
 use Rattle.ch_sql_grammar.specs.Tokens.{marked}
 use Rattle.ch_sql_grammar.specs.Tree.{plain_of}
 use Rattle.ch_sql_places.specs.Machine.{Whole, is_semi}

@@ -1,7 +1,7 @@
 use Rattle.std.proofs.Common.{◌≡◌, ◌+◌, ◌∙◌, ◌++◌, ◌∷◌, [], map, refl, true, false, sym, ap, nat_lt, arith}
 use Rattle.std.proofs.lemmas.List.{map-append}
 use Rattle.std.proofs.lemmas.Bool.Decides.{nat_tests}
-use Rattle.ch_sql_grammar.specs.declared.tok.Mark.TheVariants as mark
+use Rattle.ch_sql_grammar.specs.declared.terminal.Mark.TheVariants as mark
 use Rattle.ch_sql_places.specs.Machine.{Member, Negated, Group, Negs, Conjs, Closed, depth_of}
 use Rattle.ch_sql_grammar.specs.Tokens.{marked}
 use Rattle.ch_sql_grammar.specs.Tree.{plain_of}

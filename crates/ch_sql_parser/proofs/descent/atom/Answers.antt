@@ -1,5 +1,5 @@
 use Rattle.std.proofs.Common.{◌≡◌, ◌∙◌, refl, true, false, arith}
-use Rattle.ch_sql_grammar.specs.declared.tok.Mark.TheVariants as mark
+use Rattle.ch_sql_grammar.specs.declared.terminal.Mark.TheVariants as mark
 use Rattle.ch_sql_places.specs.Machine.{First}
 use Rattle.ch_sql_grammar.specs.Tokens.{marked}
 use Rattle.ch_sql_parser.proofs.Rules.{atom_rule}

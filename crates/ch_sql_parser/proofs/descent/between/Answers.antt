@@ -1,5 +1,5 @@
 use Rattle.std.proofs.Common.{◌≡◌, refl, true, arith}
-use Rattle.ch_sql_grammar.specs.declared.tok.Mark.TheVariants as mark
+use Rattle.ch_sql_grammar.specs.declared.terminal.Mark.TheVariants as mark
 use Rattle.ch_sql_grammar.specs.Tokens.{marked}
 use Rattle.ch_sql_parser.proofs.Rules.{low_rule, low_and_rule, high_rule}
 use Rattle.ch_sql_parser.proofs.Trees.{plain_between}

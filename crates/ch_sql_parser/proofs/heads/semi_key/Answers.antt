@@ -1,5 +1,5 @@
 use Rattle.std.proofs.Common.{◌≡◌, ◌∙◌, ◌+◌, Some, true, false, sym, ap, arith}
-use Rattle.ch_sql_grammar.specs.declared.tok.Mark.TheVariants as mark
+use Rattle.ch_sql_grammar.specs.declared.terminal.Mark.TheVariants as mark
 use Rattle.ch_sql_grammar.specs.Tokens.{marked}
 use Rattle.ch_sql_parser.specs.Behind.{opens_select}
 use Rattle.ch_sql_parser.proofs.Leading.{lead_unnamed, bare_opens, bare_closed, dot_unnamed, dotted_opens, dotted_closed}

@@ -1,5 +1,5 @@
 use Rattle.std.proofs.Common.{◌∙◌, ap, sym, map, refl}
-use Rattle.ch_sql_grammar.specs.declared.tok.Mark.TheVariants as mark
+use Rattle.ch_sql_grammar.specs.declared.terminal.Mark.TheVariants as mark
 use Rattle.ch_sql_grammar.specs.Tree.{plain_of, plains}
 use Rattle.ch_sql_text.specs.Printed.{filter_tokens, and_members, or_members, in_parens, is_or, is_and_or}
 use Rattle.ch_sql_text.specs.Writing.{puts}

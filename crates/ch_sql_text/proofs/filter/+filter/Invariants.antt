@@ -1,5 +1,5 @@
 use Rattle.std.proofs.Common.{◌≡◌, drop, map, false}
-use Rattle.ch_sql_grammar.specs.declared.tok.Mark.TheVariants as mark
+use Rattle.ch_sql_grammar.specs.declared.terminal.Mark.TheVariants as mark
 use Rattle.ch_sql_grammar.specs.Tree.{plain_of, plains}
 use Rattle.ch_sql_text.specs.Printed.{marked_off, and_members, or_members}
 use Rattle.ch_sql_text.specs.Writing.{puts}

@@ -1,5 +1,5 @@
 use Rattle.std.proofs.Common.{◌∙◌, map, refl}
-use Rattle.ch_sql_grammar.specs.declared.tok.Mark.TheVariants as mark
+use Rattle.ch_sql_grammar.specs.declared.terminal.Mark.TheVariants as mark
 use Rattle.ch_sql_text.proofs.Puts.{list_step}
 use Rattle.ch_sql_text.proofs.phrase.write_list.Goals as goal
 

@@ -1,5 +1,5 @@
 use Rattle.std.proofs.Common.{◌≡◌, drop, map, false}
-use Rattle.ch_sql_grammar.specs.declared.tok.Mark.TheVariants as mark
+use Rattle.ch_sql_grammar.specs.declared.terminal.Mark.TheVariants as mark
 use Rattle.ch_sql_text.specs.Printed.{marked_off}
 use Rattle.ch_sql_text.specs.Writing.{puts}
 use Rattle.ch_sql_text.proofs.phrase.write_list.Given as goal

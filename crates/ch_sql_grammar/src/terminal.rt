@@ -1,5 +1,5 @@
 ghost use Rattle.std.specs.Prelude.{◌≡◌, IfOk, map, option_map};
-ghost use Rattle.ch_sql_grammar.specs.Tokens.{has_mark, name_in, tok_of, symbol_mark};
+ghost use Rattle.ch_sql_grammar.specs.Tokens.{has_mark, name_in, terminal_of, symbol_mark};
 
 use crate::keyword::keyword_in;
 use ch_cells::{Bytes, Memory};
@@ -51,27 +51,27 @@ pub enum Mark {
 /// A token as the grammar sees it: a word that is a keyword in any case is a mark, and any other
 /// word is a name, as a quoted name is.
 #[derive(Debug, Drop)]
-pub enum Tok {
+pub enum Terminal {
     Mark(Mark),
     Name(Bytes),
     Number(i64),
     Text(Bytes),
 }
 
-pub fn is_mark(mark: Mark, token: &Tok) -> bool
+pub fn is_mark(mark: Mark, token: &Terminal) -> bool
     ensures { result ≡ has_mark mark token.now }
 {
     match token {
-        Tok::Mark(found) => mark == *found,
+        Terminal::Mark(found) => mark == *found,
         _ => false,
     }
 }
 
-pub fn name_of(token: &Tok) -> Option<&Bytes>
+pub fn name_of(token: &Terminal) -> Option<&Bytes>
     ensures { option_map (λ n. n.now) result ≡ name_in token.now }
 {
     match token {
-        Tok::Name(name) => Some(name),
+        Terminal::Name(name) => Some(name),
         _ => None,
     }
 }
@@ -95,28 +95,28 @@ fn mark_of(symbol: Symbol) -> Mark
     }
 }
 
-fn make_tok(alloc: Global, token: &Token) -> Result<Tok, Memory>
-    ensures { IfOk result (λ t. t ≡ tok_of token.now) }
+fn make_terminal(alloc: Global, token: &Token) -> Result<Terminal, Memory>
+    ensures { IfOk result (λ t. t ≡ terminal_of token.now) }
 {
     match token {
         Token::Word(word) => match keyword_in(word.as_slice()) {
-            Some(mark) => Ok(Tok::Mark(mark)),
-            None => Ok(Tok::Name(Bytes::from_slice(alloc, word.as_slice())?)),
+            Some(mark) => Ok(Terminal::Mark(mark)),
+            None => Ok(Terminal::Name(Bytes::from_slice(alloc, word.as_slice())?)),
         },
-        Token::Quoted(name) => Ok(Tok::Name(Bytes::from_slice(alloc, name.as_slice())?)),
-        Token::Number(n) => Ok(Tok::Number(*n)),
-        Token::Text(text) => Ok(Tok::Text(Bytes::from_slice(alloc, text.as_slice())?)),
-        Token::Symbol(symbol) => Ok(Tok::Mark(mark_of(*symbol))),
+        Token::Quoted(name) => Ok(Terminal::Name(Bytes::from_slice(alloc, name.as_slice())?)),
+        Token::Number(n) => Ok(Terminal::Number(*n)),
+        Token::Text(text) => Ok(Terminal::Text(Bytes::from_slice(alloc, text.as_slice())?)),
+        Token::Symbol(symbol) => Ok(Terminal::Mark(mark_of(*symbol))),
     }
 }
 
 /// The tokens as the grammar sees them.
-pub fn toks_of(alloc: Global, tokens: &[Token]) -> Result<Vec<Tok>, Memory>
-    ensures { IfOk result (λ toks. toks.items ≡ map tok_of tokens.now) }
+pub fn terminals_of(alloc: Global, tokens: &[Token]) -> Result<Vec<Terminal>, Memory>
+    ensures { IfOk result (λ terminals. terminals.items ≡ map terminal_of tokens.now) }
 {
-    let mut toks = Vec::new(alloc);
+    let mut terminals = Vec::new(alloc);
     for token in tokens {
-        toks.push(make_tok(alloc, token)?)?;
+        terminals.push(make_terminal(alloc, token)?)?;
     }
-    Ok(toks)
+    Ok(terminals)
 }
