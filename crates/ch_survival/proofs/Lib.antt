@@ -1,0 +1,4 @@
+pub mod Sending
+pub mod Starts
+pub mod Survives
+pub mod WorkedFilter

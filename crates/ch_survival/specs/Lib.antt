@@ -1,0 +1,4 @@
+pub mod Given
+pub mod InRange
+pub mod Asked
+pub mod Worked
