@@ -1,5 +1,5 @@
 -- The answer of a planned query survives its run.
-use Rattle.std.proofs.Common.{◌≡◌, ℕ, Bool, true, false, List, IsPermutation, refl, sym, subst, ◌∙◌, ap}
+use Rattle.std.proofs.Common.{◌≡◌, ◌≤◌, ℕ, Bool, true, false, List, IsPermutation, refl, sym, subst, ◌∙◌, ap}
 use Rattle.std.specs.Prelude.{if◌then◌else◌}
 use Rattle.ch_cells.specs.declared.Cell.{Cell}
 use Rattle.ch_cells.specs.declared.Kind.{Kind}
@@ -21,7 +21,10 @@ use Rattle.ch_prune.specs.Sent.{is_sent}
 use Rattle.ch_plan.specs.Kinds.{Covers, IsPlanOf, kind_policy, kind_times}
 use Rattle.ch_plan.specs.declared.kind.PlanKind.{PlanKind}
 use Rattle.ch_plan.proofs.KindLaws.{kind_holds}
-use Rattle.ch_survival.specs.Asked.{IsAsked, answer_arrived, asked_gate, asked_rows}
+use Rattle.ch_plan.specs.Needs.{greatest_length}
+use Rattle.ch_survival.specs.Asked.{IsAsked, answer_arrived, asked_gate, asked_reading, asked_rows}
+use Rattle.ch_survival.specs.Given.{AreParts, IsPlanned, given_of}
+use Rattle.ch_survival.proofs.Starts.{starts}
 use Rattle.ch_survival.proofs.Sending.{sent_pass}
 use Rattle.ch_protocol.specs.Machine.{Config, IsReached, State, passes, stopped}
 use Rattle.ch_protocol.specs.Received.{all_rows, rows_arrived}
@@ -76,3 +79,11 @@ asked_survives texts b tables k profile asked plan c s policy_is passes_is p rea
 -- what workers send of such tables passes the test of rows
 pub asked_sent : (texts : List (List ℕ)) (b : Bound) (tables : List (List (List Cell))) → IsAsked texts b tables → AreRows (is_sent (asked_gate texts b) b) (asked_rows texts b tables)
 asked_sent texts b tables asked = sent_pass texts (kinds_read b b.shape) b tables (asked_gate texts b) (sound_tables texts b tables asked.sound asked.ascends asked.fits) asked.range asked.sums
+
+-- a plan of a sound query over the rows of its tables may be started
+pub asked_starts : (texts : List (List ℕ)) (b : Bound) (tables : List (List (List Cell))) (k : PlanKind) (profile : Profile) → IsAsked texts b tables → IsPlanOf k b profile → greatest_length b.carried ≤ 16
+    → (c : Config) → AreParts c → c.prunes ≡ kind_policy k → IsPermutation (asked_rows texts b tables) (all_rows c) → IsPlanned (given_of k (asked_gate texts b) b c)
+asked_starts texts b tables k profile asked plan few c parts policy_is p =
+    let d = asked_reading texts b in
+    starts k d b profile (asked_gate texts b) plan few (gates_fit d b (IsCarried b) (sound_names b asked.sound) asked.sound.whole) c parts policy_is
+    (Each-permutation (λ r. is_sent (asked_gate texts b) b r ≡ true) (asked_rows texts b tables) (all_rows c) p (asked_sent texts b tables asked))

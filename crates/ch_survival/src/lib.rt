@@ -31,8 +31,10 @@ pub fn rows_are_sent()
 
 /// A plan of a query and parts whose rows are those that workers send of it make what a run may be started with.
 pub fn plans_start()
-    ensures { (k : PlanKind) (d : Reading) (b : Bound) (profile : Profile) (gate : Gate) → IsPlanOf k b profile → greatest_length b.carried ≤ 16 → GateFits gate (asked_of_words d b) b.shape
+    ensures rows { (k : PlanKind) (d : Reading) (b : Bound) (profile : Profile) (gate : Gate) → IsPlanOf k b profile → greatest_length b.carried ≤ 16 → GateFits gate (asked_of_words d b) b.shape
         → (c : Config) → AreParts c → c.prunes ≡ kind_policy k → AreRows (is_sent gate b) (all_rows c) → IsPlanned (given_of k gate b c) }
+    ensures tables { (texts : List (List ℕ)) (b : Bound) (tables : List (List (List Cell))) (k : PlanKind) (profile : Profile) → IsAsked texts b tables → IsPlanOf k b profile → greatest_length b.carried ≤ 16
+        → (c : Config) → AreParts c → c.prunes ≡ kind_policy k → IsPermutation (asked_rows texts b tables) (all_rows c) → IsPlanned (given_of k (asked_gate texts b) b c) }
 {}
 
 /// Once a run has stopped whose workers have the rows of the tables, and whose policy covers the query over them, the answer
