@@ -15,7 +15,7 @@ use ch_cells::{CellRef, Listed, Memory};
 use ch_ranks::Ranks;
 use ch_tables::Table;
 pub use dictionary::{add_texts, dictionaries_have_their_texts};
-pub use side_row::{SideRow, row_bit};
+pub use side_row::{SideRow, own_part, row_bit};
 
 #[cfg(test)]
 mod tests;

@@ -1,12 +1,14 @@
-ghost use Rattle.std.specs.Prelude.{◌≡◌, ◌<◌, [], length, slice_index_or};
+ghost use Rattle.std.specs.Prelude.{◌≡◌, ◌<◌, [], length, slice_index_or, IfOk};
 ghost use Rattle.ch_pred.specs.Holds.{holds_of};
 ghost use Rattle.ch_pred.specs.Names.{Names};
+ghost use Rattle.ch_pred.specs.Part.{part_of};
 ghost use Rattle.ch_pred.specs.Plain.{plain_of};
 ghost use Rattle.ch_pred.specs.Values.{cells_seen};
 
-use ch_cells::CellRef;
-use ch_pred::{BoundPred, Cells, holds};
+use ch_cells::{CellRef, Memory};
+use ch_pred::{BoundPred, Cells, holds, part};
 use ch_tables::Table;
+use std::alloc::Global;
 
 /// A row of a table as the cells of a side.
 #[derive(Drop)]
@@ -47,6 +49,13 @@ impl Cells for SideRow<'_> {
     fn cell(&self, _side: u8, at: u32) -> CellRef<'_> {
         self.table.cell(self.part, self.row, at)
     }
+}
+
+/// The part of a filter that a side can tell, which a worker makes once: whether it holds on a row is that row's bit.
+pub fn own_part(alloc: Global, filter: &BoundPred, side: u8) -> Result<BoundPred, Memory>
+    ensures { IfOk result (λ own. plain_of own ≡ part_of (plain_of filter.now) side) }
+{
+    part(alloc, filter, side)
 }
 
 /// The bit of a row: whether the part of its side holds on it. It takes no memory.

@@ -1,9 +1,11 @@
-ghost use Rattle.std.specs.Prelude.{◌≡◌, All, bytes_eq, true, IfOk};
+ghost use Rattle.std.specs.Prelude.{◌≡◌, All, bytes_eq, codes, true, IfOk};
 ghost use Rattle.std.specs.List.{list_any};
+ghost use Rattle.ch_pred.specs.Plain.{Like, plain_of};
 ghost use Rattle.ch_tables.specs.Texts.{texts_of};
 
-use crate::{add_texts, push_words, text_ranks};
+use crate::{add_texts, own_part, push_words, row_bit, text_ranks};
 use ch_cells::{Bytes, Listed, Memory};
+use ch_pred::{BoundPred, Col, weak};
 use ch_ranks::{Ranks, RanksBuilder};
 use ch_tables::{Room, Table, read_table};
 use std::alloc::Global;
@@ -39,5 +41,38 @@ fn rows_are_words(rt: HostRuntime) -> Result<(), Fail> {
     let room = Room { rows: 9, cells: 99 };
     let table = read_table(alloc, b"t", &parts, room)?;
     assert_eq!(rt; last_words(alloc, &table)?.as_slice(), [1, 9].as_slice());
+    Ok(())
+}
+
+/// `b LIKE 'x%'`
+fn begins_with_x(alloc: Global) -> Result<BoundPred, Memory>
+    ensures { IfOk result (λ p. plain_of p ≡ Like (record { side = 0; at = 1 }) (codes "x")) }
+{
+    let prefix = Bytes::from_slice(alloc, b"x")?;
+    Ok(BoundPred::Like(Col { side: 0, at: 1 }, prefix))
+}
+
+/// The bits of a table's two rows by that filter, if it has two columns.
+fn bits(table: &Table, own: &BoundPred) -> (bool, bool)
+    requires { plain_of own.now ≡ Like (record { side = 0; at = 1 }) (codes "x") }
+{
+    if table.parts() == 1 && table.rows(0) == 2 && table.header().len() == 2 {
+        (row_bit(own, table, 0, 0, 0), row_bit(own, table, 0, 0, 1))
+    } else {
+        (true, false)
+    }
+}
+
+#[test]
+fn bits_are_by_part(rt: HostRuntime) -> Result<(), Fail> {
+    let alloc = rt.alloc();
+    let mut parts = Listed::new(alloc);
+    parts.push(Bytes::from_slice(alloc, b"a,b\n1,y\n1,x\n")?)?;
+    let room = Room { rows: 9, cells: 99 };
+    let table = read_table(alloc, b"t", &parts, room)?;
+    let filter = begins_with_x(alloc)?;
+    let own = own_part(alloc, &filter, 0)?;
+    assert_eq!(rt; bits(&table, &own), (false, true));
+    assert!(rt; weak(alloc, &filter, 0)? == BoundPred::Truth);
     Ok(())
 }
