@@ -1,0 +1,9 @@
+pub mod Clearing
+pub mod Columned
+pub mod Filtering
+pub mod Founding
+pub mod Itemed
+pub mod Marking
+pub mod Naming
+pub mod Printing
+pub mod Searches

@@ -1,0 +1,11 @@
+pub mod Binding
+pub mod Checks
+pub mod First
+pub mod Keys
+pub mod Marks
+pub mod References
+pub mod Rows
+pub mod Scope
+pub mod Shapes
+pub mod Sums
+pub mod Within
