@@ -1,2 +1,3 @@
-mod Texts
+mod Pairs
 mod Sent
+mod Texts
