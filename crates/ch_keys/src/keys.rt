@@ -1,4 +1,4 @@
-ghost use Rattle.std.specs.Prelude.{◌≡◌, ◌++◌, ◌∷◌, [], if◌then◌else◌, length, position, map, IfOk, OnOk, OnErr};
+ghost use Rattle.std.specs.Prelude.{◌≡◌, ◌++◌, ◌∷◌, [], if◌then◌else◌, length, position, map, option_map, slice_get, IfOk, OnOk, OnErr};
 ghost use Rattle.std.specs.Ordering.{int_cmp, is_eq};
 ghost use Rattle.std.specs.Cmp.Lexicographic.{slice_cmp};
 ghost use Rattle.ch_lists.specs.Members.{AreDifferent};
@@ -58,6 +58,16 @@ impl Keys {
         ensures { result ≡ position (λ k. is_eq (slice_cmp int_cmp key.now k)) self.now }
     {
         self.set.get_index_of(key)
+    }
+
+    /// The key of a number.
+    pub fn key(&self, number: usize) -> Option<&[i64]>
+        ensures { option_map (λ key. key.now) result ≡ slice_get self.now number }
+    {
+        match self.set.get_index(number) {
+            Some(key) => Some(key.as_slice()),
+            None => None,
+        }
     }
 
     /// The keys in ascending order: word by word from the first one on. No word is copied.

@@ -16,6 +16,17 @@ const NUMBERS: &[(&[i64], Option<usize>)] = &[
 
 const SORTED: &[&[i64]] = &[&[], &[-3, 5], &[7], &[7, 1]];
 
+/// Whether a number's key is the row, or there is no number.
+fn is_key(keys: &Keys, number: Option<usize>, row: &[i64]) -> bool {
+    match number {
+        Some(number) => match keys.key(number) {
+            Some(key) => key == row,
+            None => false,
+        },
+        None => true,
+    }
+}
+
 fn added(alloc: Global) -> Result<Keys, Fail> {
     let mut keys = Keys::new(alloc);
     for row in ADDED {
@@ -31,7 +42,9 @@ fn keys_are_numbered(rt: HostRuntime) -> Result<(), Fail> {
     for asked in NUMBERS {
         assert!(rt; keys.find(asked.0) == asked.1);
         assert!(rt; keys.has(asked.0) == asked.1.is_some());
+        assert!(rt; is_key(&keys, asked.1, asked.0));
     }
+    assert!(rt; keys.key(4).is_none());
     Ok(())
 }
 
