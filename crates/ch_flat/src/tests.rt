@@ -1,4 +1,4 @@
-use crate::Rows;
+use crate::{Rows, picked};
 use ch_cells::Memory;
 use std::alloc::Global;
 use std::test::Fail;
@@ -67,5 +67,12 @@ fn rows_are_sorted(rt: HostRuntime) -> Result<(), Fail> {
     for case in CASES {
         assert!(rt; is_sorted(rt.alloc(), case)?);
     }
+    Ok(())
+}
+
+#[test]
+fn words_are_picked(rt: HostRuntime) -> Result<(), Fail> {
+    let row = picked(rt.alloc(), WORDS, &[2, 4, 1])?;
+    assert_eq!(rt; row.as_slice(), [2305843009213693951, 0, -2].as_slice());
     Ok(())
 }
