@@ -193,7 +193,11 @@ fn each_line_is_read(rt: HostRuntime) -> Result<(), Fail> {
     for line in READ {
         reads_line(&rt, rt.alloc(), line.as_bytes())?;
     }
-    reads(&rt, rt.alloc(), b"cheetah program 1\nwidth 0\nverdict 0\nend\n")
+    reads(
+        &rt,
+        rt.alloc(),
+        b"cheetah program 1\nwidth 0\nverdict 0\nend\n",
+    )
 }
 
 #[test]
