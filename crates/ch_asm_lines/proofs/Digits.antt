@@ -10,7 +10,7 @@ use Rattle.std.proofs.lemmas.Bool.{cases_Bool}
 use Rattle.std.proofs.lemmas.Bool.Decides.{nat_tests}
 use Rattle.std.proofs.lemmas.Int.{ints}
 use Rattle.ch_cells.specs.Number.{is_digit}
-use Rattle.ch_asm_lines.specs.Numbers.{digits_from, magnitude_of, word_of, seed_of, constant_of, negative}
+use Rattle.ch_asm_lines.specs.Numbers.{greatest_seed, digits_from, magnitude_of, word_of, seed_of, constant_of, negative}
 use Rattle.ch_asm_lines.specs.Range.{IsWord}
 use Rattle.ch_asm_lines.proofs.Options.{bound, mapped}
 
@@ -104,11 +104,11 @@ word_back w h = magnitude_back 4294967295 w (omega arith) (omega arith)
 
 pub seed_is : (text : List ℕ) (n : ℕ) → seed_of text ≡ Some n → (text ≡ decimal n) × (n < 2 ^ 64)
 unfolding seed_of
-seed_is text n e = let m = magnitude_is 18446744073709551615 text n (omega arith) e in let h = m.0 in (m.1, omega arith)
+seed_is text n e = let m = magnitude_is greatest_seed text n (omega arith) e in let h = m.0 in (m.1, omega arith)
 
 pub seed_back : (n : ℕ) → n < 2 ^ 64 → seed_of (decimal n) ≡ Some n
 unfolding seed_of
-seed_back n h = magnitude_back 18446744073709551615 n (omega arith) (omega arith)
+seed_back n h = magnitude_back greatest_seed n (omega arith) (omega arith)
 
 negative_is : (n : ℕ) (v : ℤ) → negative n ≡ Some v → n ≤ 9223372036854775808 → (signed_decimal v ≡ 45 ∷ decimal n) × FitsSigned w64 v
 negative_is zero v e h = cc

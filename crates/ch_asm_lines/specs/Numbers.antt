@@ -16,9 +16,13 @@ magnitude_of most (c ∷ d ∷ cs) = if c == 48 then None else digits_from most 
 unfoldable pub word_of : List ℕ → Option ℕ
 word_of text = magnitude_of 4294967295 text
 
+-- the greatest seed of a hash: a number of 64 bits
+abbrev pub greatest_seed : ℕ
+greatest_seed = 18446744073709551615
+
 -- a number of 64 bits
 unfoldable pub seed_of : List ℕ → Option ℕ
-seed_of text = magnitude_of 18446744073709551615 text
+seed_of text = magnitude_of greatest_seed text
 
 abbrev pub negative : ℕ → Option ℤ
 negative zero = None

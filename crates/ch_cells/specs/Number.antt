@@ -4,12 +4,12 @@ use Rattle.std.specs.Fmt.{signed_decimal}
 use Rattle.std.specs.Int.RustNames.{unsigned_abs}
 
 -- the greatest magnitude of a cell
-abbrev pub most : ℕ
-most = 2305843009213693951
+abbrev pub greatest_magnitude : ℕ
+greatest_magnitude = 2305843009213693951
 
 -- the text spells this number, which is in range
 pub record IsCellNumber (v : ℤ) (text : List ℕ) : Type 0 where
-  pub range : unsigned_abs v ≤ most
+  pub range : unsigned_abs v ≤ greatest_magnitude
   pub spelled : text ≡ signed_decimal v
 
 abbrev pub is_digit : ℕ → Bool
@@ -18,7 +18,7 @@ is_digit c = nat_le 48 c && nat_le c 57
 -- the number that the digits spell when they follow those of n
 abbrev pub digits_from : ℕ → List ℕ → Option ℕ
 digits_from n [] = Some n
-digits_from n (c ∷ cs) = if is_digit c && nat_le (n * 10 + (c - 48)) most then digits_from (n * 10 + (c - 48)) cs else None
+digits_from n (c ∷ cs) = if is_digit c && nat_le (n * 10 + (c - 48)) greatest_magnitude then digits_from (n * 10 + (c - 48)) cs else None
 
 abbrev pub magnitude_of : List ℕ → Option ℕ
 magnitude_of [] = None

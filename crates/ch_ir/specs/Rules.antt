@@ -15,7 +15,7 @@ use Rattle.ch_ir.specs.declared.program.Access.{Access}
 use Rattle.ch_ir.specs.declared.program.Array.{Array}
 use Rattle.ch_ir.specs.declared.program.Stage.{Stage}
 use Rattle.ch_ir.specs.declared.program.Program.{Program}
-use Rattle.ch_ir.specs.declared.rules.Span.{Span}
+use Rattle.ch_ir.specs.declared.rules.Interval.{Interval}
 use Rattle.ch_ir.specs.declared.rules.Refused.{Refused}
 use Rattle.ch_ir.specs.declared.rules.Refused.TheVariants as refused
 use Rattle.ch_ir.specs.Machine.{op_to, cells_of}
@@ -24,50 +24,50 @@ use Rattle.ch_ir.specs.Machine.{op_to, cells_of}
 
 -- the words that have a value at a place of the program, with what it can be
 abbrev pub Known : Type 0
-Known = ℕ → Option Span
+Known = ℕ → Option Interval
 
-abbrev pub learn : Known → ℕ → Span → Known
+abbrev pub learn : Known → ℕ → Interval → Known
 learn ks to s w = if nat_eq w to then Some s else ks w
 
 -- all of i64
-abbrev pub whole : Span
+abbrev pub whole : Interval
 whole = record { low = negsuc (2 ^ 63 - 1); high = pos (2 ^ 63 - 1) }
 
-abbrev pub flag : Span
+abbrev pub flag : Interval
 flag = record { low = pos 0; high = pos 1 }
 
-abbrev pub or_whole : Option Span → Span
+abbrev pub or_whole : Option Interval → Interval
 or_whole None = whole
 or_whole (Some s) = s
 
-abbrev pub span_of : Known → Operand → Span
-span_of ks (Word w) = or_whole (ks w)
-span_of ks (Const c) = record { low = c; high = c }
+abbrev pub interval_of : Known → Operand → Interval
+interval_of ks (Word w) = or_whole (ks w)
+interval_of ks (Const c) = record { low = c; high = c }
 
-abbrev pub mask_span : Span → Span → Span
-mask_span a b = if int_le (pos 0) a.low && int_le (pos 0) b.low then record { low = pos 0; high = int_min a.high b.high } else whole
+abbrev pub mask_interval : Interval → Interval → Interval
+mask_interval a b = if int_le (pos 0) a.low && int_le (pos 0) b.low then record { low = pos 0; high = int_min a.high b.high } else whole
 
-abbrev pub two_span : Binary → Span → Span → Span
-two_span binary.Add a b = record { low = saturate_signed w64 (a.low +ℤ b.low); high = saturate_signed w64 (a.high +ℤ b.high) }
-two_span binary.Sub a b = record { low = saturate_signed w64 (a.low -ℤ b.high); high = saturate_signed w64 (a.high -ℤ b.low) }
-two_span binary.Mask a b = mask_span a b
-two_span binary.Lt a b = flag
-two_span binary.Le a b = flag
-two_span binary.Eq a b = flag
-two_span binary.Ne a b = flag
-two_span binary.And a b = flag
-two_span binary.Or a b = flag
+abbrev pub two_interval : Binary → Interval → Interval → Interval
+two_interval binary.Add a b = record { low = saturate_signed w64 (a.low +ℤ b.low); high = saturate_signed w64 (a.high +ℤ b.high) }
+two_interval binary.Sub a b = record { low = saturate_signed w64 (a.low -ℤ b.high); high = saturate_signed w64 (a.high -ℤ b.low) }
+two_interval binary.Mask a b = mask_interval a b
+two_interval binary.Lt a b = flag
+two_interval binary.Le a b = flag
+two_interval binary.Eq a b = flag
+two_interval binary.Ne a b = flag
+two_interval binary.And a b = flag
+two_interval binary.Or a b = flag
 
 -- the least interval that holds both
-abbrev pub hull : Span → Span → Span
+abbrev pub hull : Interval → Interval → Interval
 hull a b = record { low = int_min a.low b.low; high = int_max a.high b.high }
 
-abbrev pub op_span : Known → Op → Span
-op_span ks (Set to a) = span_of ks a
-op_span ks (Two to kind a b) = two_span kind (span_of ks a) (span_of ks b)
-op_span ks (Bit to a) = record { low = pos 0; high = pos (2 ^ 61) }
-op_span ks (Pick to a b c) = hull (span_of ks b) (span_of ks c)
-op_span ks (Hash to seed modulus words) = record { low = pos 0; high = pos (modulus - 1) }
+abbrev pub op_interval : Known → Op → Interval
+op_interval ks (Set to a) = interval_of ks a
+op_interval ks (Two to kind a b) = two_interval kind (interval_of ks a) (interval_of ks b)
+op_interval ks (Bit to a) = record { low = pos 0; high = pos (2 ^ 61) }
+op_interval ks (Pick to a b c) = hull (interval_of ks b) (interval_of ks c)
+op_interval ks (Hash to seed modulus words) = record { low = pos 0; high = pos (modulus - 1) }
 
 -- What is known after a part of the program
 
@@ -76,7 +76,7 @@ inputs width w = if nat_lt w width then Some whole else None
 
 abbrev pub after_ops : List Op → Known → Known
 after_ops [] ks = ks
-after_ops (op ∷ ops) ks = after_ops ops (learn ks (op_to op) (op_span ks op))
+after_ops (op ∷ ops) ks = after_ops ops (learn ks (op_to op) (op_interval ks op))
 
 -- n old words from a number on
 abbrev pub after_old : ℕ → ℕ → Known → Known
@@ -148,7 +148,7 @@ op_refusal stage ks op = or_else (needs (has_modulus op) (refused.Shape stage)) 
 
 abbrev pub ops_refusal : ℕ → Known → List Op → Option Refused
 ops_refusal stage ks [] = None
-ops_refusal stage ks (op ∷ ops) = or_else (op_refusal stage ks op) (ops_refusal stage (learn ks (op_to op) (op_span ks op)) ops)
+ops_refusal stage ks (op ∷ ops) = or_else (op_refusal stage ks op) (ops_refusal stage (learn ks (op_to op) (op_interval ks op)) ops)
 
 -- the arrays that earlier stages access
 abbrev pub Used : Type 0
@@ -204,7 +204,7 @@ update_operands (u ∷ us) = update_operand u ++ update_operands us
 abbrev pub access_operands : Access → List Operand
 access_operands x = x.index ∷ x.guard ∷ x.key ++ (update_operands x.yes ++ update_operands x.no)
 
-abbrev pub range_refusal : ℕ → Span → ℕ → Option Refused
+abbrev pub range_refusal : ℕ → Interval → ℕ → Option Refused
 range_refusal stage s len = needs (int_le (pos 0) s.low && int_lt s.high (pos len)) (refused.IndexRange stage s.low s.high len)
 
 -- the old words are assigned in turn
@@ -218,7 +218,7 @@ reach_refusal arrays stage used ks x =
     or_else (if used x.array then Some (refused.TwoAccesses stage) else None)
     (or_else (needs (has_shape arrays x) (refused.Shape stage))
     (or_else (operands_refusal stage ks (access_operands x))
-    (range_refusal stage (span_of ks x.index) (entries_of arrays x.array))))
+    (range_refusal stage (interval_of ks x.index) (entries_of arrays x.array))))
 
 -- what an access to an array whose entries have so many cells assigns: the old words, and then hit
 abbrev pub assign_refusal : ℕ → ℕ → Known → Access → Option Refused

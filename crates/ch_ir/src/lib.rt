@@ -16,4 +16,4 @@ pub use part::{cells_of, entries_of, to_of};
 pub use profile::{Profile, default_profile};
 pub use program::{Access, Array, Binary, Op, Operand, Program, Stage, Test, Update};
 pub use read::{ProfileError, ProfileWhy, read_profile};
-pub use rules::{LimitName, Refused, Sizes, Span};
+pub use rules::{Interval, LimitName, Refused, Sizes};

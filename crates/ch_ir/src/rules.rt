@@ -25,7 +25,7 @@ pub struct Sizes {
 
 /// The least and the greatest value that a word can have.
 #[derive(Clone, Copy, Debug, PartialEq, Eq)]
-pub struct Span {
+pub struct Interval {
     pub low: i64,
     pub high: i64,
 }

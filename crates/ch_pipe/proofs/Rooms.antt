@@ -13,7 +13,7 @@ use Rattle.ch_ir.specs.declared.program.Array.{Array}
 use Rattle.ch_ir.specs.declared.program.Stage.{Stage}
 use Rattle.ch_ir.specs.declared.rules.Refused.TheVariants as refused
 use Rattle.ch_ir.specs.Machine.{op_to, cells_of}
-use Rattle.ch_ir.specs.Rules.{Known, Used, needs, learn, op_span, has_modulus, op_refusal, ops_refusal, update_operand, update_operands, entries_of, has_shape, key_words, test_fits, reach_refusal, accesses_refusal, stage_refusal, stages_refusal, with_arrays, after_ops, after_stage}
+use Rattle.ch_ir.specs.Rules.{Known, Used, needs, learn, op_interval, has_modulus, op_refusal, ops_refusal, update_operand, update_operands, entries_of, has_shape, key_words, test_fits, reach_refusal, accesses_refusal, stage_refusal, stages_refusal, with_arrays, after_ops, after_stage}
 use Rattle.ch_ir.specs.Measure.{operand_end, operands_end, op_end, ops_end, old_end, access_end, accesses_end, stages_end}
 use Rattle.ch_verify.proofs.Sound.{none_else, needs_none}
 use Rattle.ch_verify.proofs.Ends.{end_append, has_entries}
@@ -46,7 +46,7 @@ ops_room n stage ks [] h r = tt
 ops_room n stage ks (op ∷ ops) h r =
     let parts = none_else (op_refusal stage ks op) _ r in
     let two = none_else (needs (has_modulus op) (refused.Shape stage)) _ parts.0 in
-    (op_room n op (omega arith) (needs_none (has_modulus op) (refused.Shape stage) two.0), ops_room n stage (learn ks (op_to op) (op_span ks op)) ops (omega arith) parts.1)
+    (op_room n op (omega arith) (needs_none (has_modulus op) (refused.Shape stage) two.0), ops_room n stage (learn ks (op_to op) (op_interval ks op)) ops (omega arith) parts.1)
 
 update_room : (n : ℕ) (u : Update) → operands_end (update_operand u) ≤ n → UpdateRoom n u
 update_room n update.Keep h = tt

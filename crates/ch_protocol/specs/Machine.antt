@@ -110,9 +110,13 @@ confirmed c s = all_below (λ w. is_done (size c w) (s.acked w)) (workers c)
 abbrev pub stopped : Config → State → Bool
 stopped c s = (s.pass == passes c) && confirmed c s
 
--- a count that has reached 2 ^ 64 - 1 stays there
+-- the greatest count: 2 ^ 64 - 1
+abbrev pub greatest_count : ℕ
+greatest_count = 18446744073709551615
+
+-- a count that has reached the greatest stays there
 abbrev pub one_more : ℕ → ℕ
-one_more n = min (n + 1) 18446744073709551615
+one_more n = min (n + 1) greatest_count
 
 -- a worker puts one of its numbers on the link up, with the present epoch
 abbrev pub go_up : State → ℕ → ℕ → State

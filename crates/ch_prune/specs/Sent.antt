@@ -1,7 +1,7 @@
 -- The rows that workers send of a query.
 use Rattle.std.specs.Prelude.{◌==◌, Bool, true, ◌&&◌, length, ℤ, pos, nat_le, nat_abs, int_le, Some, None}
 use Rattle.std.specs.List.{list_all}
-use Rattle.ch_cells.specs.Number.{most}
+use Rattle.ch_cells.specs.Number.{greatest_magnitude}
 use Rattle.ch_cover.specs.Rows.{Row}
 use Rattle.ch_pred.specs.Meaning.{at}
 use Rattle.ch_pred.specs.declared.bound.Bound.{Bound}
@@ -12,7 +12,7 @@ use Rattle.ch_words.specs.Rows.{Gate, is_gated, row_seen}
 
 -- a word is in the cell range; a text's rank is too
 abbrev pub is_cell_word : ℤ → Bool
-is_cell_word v = nat_le (nat_abs v) most
+is_cell_word v = nat_le (nat_abs v) greatest_magnitude
 
 -- a summed word isn't negative
 abbrev pub is_countable : Bound → Row → Shape → Bool

@@ -10,7 +10,7 @@ use Rattle.std.proofs.lemmas.Bool.Decides.{nat_tests}
 use Rattle.std.proofs.lemmas.List.{take-append-drop}
 use Rattle.std.proofs.lemmas.Fmt.{digits_decimal, decimal_nonempty}
 use Rattle.std.proofs.Math.Seq.{take-append_seam}
-use Rattle.ch_cells.specs.Number.{most, is_digit, number_of}
+use Rattle.ch_cells.specs.Number.{greatest_magnitude, is_digit, number_of}
 use Rattle.ch_cells.proofs.Spelling.{law, own}
 use Rattle.ch_sql_tokens.specs.declared.token.Token.{Token}
 use Rattle.ch_sql_tokens.specs.declared.token.Token.TheVariants as token
@@ -144,9 +144,9 @@ number_ends [] = refl
 number_ends (b ∷ bs) = ends_step b bs (b == 45)
 
 -- a number that spells no cell, with a digit but 0 in front, is out of range
-far : (s : List ℕ) → number_of s ≡ None → (v : ℤ) → s ≡ signed_decimal v → most < unsigned_abs v
-far s none v e = elim (cases_Bool (nat_le (unsigned_abs v) most)) [
-  | inl h ↦ let r : unsigned_abs v ≤ most = grind (arith, nat_tests) in let k : number_of s ≡ Some v = (law v s).1 (record { range = r; spelled = e }) in cc
+far : (s : List ℕ) → number_of s ≡ None → (v : ℤ) → s ≡ signed_decimal v → greatest_magnitude < unsigned_abs v
+far s none v e = elim (cases_Bool (nat_le (unsigned_abs v) greatest_magnitude)) [
+  | inl h ↦ let r : unsigned_abs v ≤ greatest_magnitude = grind (arith, nat_tests) in let k : number_of s ≡ Some v = (law v s).1 (record { range = r; spelled = e }) in cc
   | inr h ↦ grind (arith, nat_tests)
 ]
 
@@ -304,7 +304,7 @@ first_digit (c ∷ cs) l h = (both (is_digit c) (list_all is_digit cs) h).0
 decimal_digits : (n : ℕ) → n < 2 ^ 64 → list_all is_digit (decimal n) ≡ true
 decimal_digits n fits = digits_list (decimal n) (digits_decimal own n fits)
 
-covers_number : (v : ℤ) (more : List ℕ) → unsigned_abs v ≤ most → begins_with is_digit more ≡ false → front_of (signed_decimal v ++ more) ≡ Found (token.Number v) (length (signed_decimal v))
+covers_number : (v : ℤ) (more : List ℕ) → unsigned_abs v ≤ greatest_magnitude → begins_with is_digit more ≡ false → front_of (signed_decimal v ++ more) ≡ Found (token.Number v) (length (signed_decimal v))
 covers_number (pos n) more r e =
     let fits : n < 2 ^ 64 = omega arith in
     let a = decimal_digits n fits in
@@ -365,7 +365,7 @@ nonzero_begins (c ∷ cs) h =
     let minus : (c == 45) ≡ false = grind (arith, nat_tests) in
     if_false (c == 45) _ _ minus ∙ h
 
-none_far : (s : List ℕ) (o : Option ℤ) → number_of s ≡ o → ((v : ℤ) → s ≡ signed_decimal v → most < unsigned_abs v) → o ≡ None
+none_far : (s : List ℕ) (o : Option ℤ) → number_of s ≡ o → ((v : ℤ) → s ≡ signed_decimal v → greatest_magnitude < unsigned_abs v) → o ≡ None
 none_far s None h out = refl
 none_far s (Some v) h out = let c = (law v s).0 h in let r = c.range in let f = out v c.spelled in absurd (omega arith)
 
@@ -373,7 +373,7 @@ out_read : (s : List ℕ) → number_of s ≡ None → begins_nonzero s ≡ true
 out_read s none b = ap (λ o. number_read o s) none ∙ if_true (begins_nonzero s) _ _ b
 
 out_front : (sign digits more : List ℕ) → (sign ≡ []) ⊎ (sign ≡ 45 ∷ []) → begins_with is_nonzero_digit digits ≡ true → list_all is_digit digits ≡ true → begins_with is_digit more ≡ false →
-    ((v : ℤ) → sign ++ digits ≡ signed_decimal v → most < unsigned_abs v) → front_of ((sign ++ digits) ++ more) ≡ OutOfRange
+    ((v : ℤ) → sign ++ digits ≡ signed_decimal v → greatest_magnitude < unsigned_abs v) → front_of ((sign ++ digits) ++ more) ≡ OutOfRange
 out_front sign digits more (inl s) f a e out =
     let none = none_far (sign ++ digits) (number_of (sign ++ digits)) refl out in
     let w : sign ++ digits ≡ digits = ap (λ x. x ++ digits) s in

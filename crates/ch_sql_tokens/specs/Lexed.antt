@@ -3,7 +3,7 @@ use Rattle.std.specs.Prelude.{ℕ, ◌+◌, ◌≡◌, ◌<◌, ◌≤◌, ◌==
 use Rattle.std.specs.List.{list_all}
 use Rattle.std.specs.Fmt.{signed_decimal}
 use Rattle.std.specs.Int.RustNames.{unsigned_abs}
-use Rattle.ch_cells.specs.Number.{most, is_digit}
+use Rattle.ch_cells.specs.Number.{greatest_magnitude, is_digit}
 use Rattle.ch_sql_tokens.specs.Byte.{is_blank, begins_with}
 use Rattle.ch_sql_tokens.specs.Spelling.{spelling, TokenAt}
 use Rattle.ch_sql_tokens.specs.declared.scanner.TheConstants.{MAX_QUERY_BYTES}
@@ -49,7 +49,7 @@ pub record IsOutOfRange (text : List ℕ) : Type 0 where
   pub first : begins_with is_nonzero_digit digits ≡ true
   pub are_digits : list_all is_digit digits ≡ true
   pub ends : begins_with is_digit more ≡ false
-  pub out : (v : ℤ) → sign ++ digits ≡ signed_decimal v → most < unsigned_abs v
+  pub out : (v : ℤ) → sign ++ digits ≡ signed_decimal v → greatest_magnitude < unsigned_abs v
 
 abbrev pub IsLexError : List ℕ → LexError → Type 0
 IsLexError text (error.TooLong have) = (MAX_QUERY_BYTES < length text) × (have ≡ length text)

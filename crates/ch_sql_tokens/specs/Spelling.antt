@@ -3,7 +3,7 @@ use Rattle.std.specs.Prelude.{ℕ, ◌==◌, ◌≡◌, ◌≢◌, ◌≤◌, �
 use Rattle.std.specs.List.{list_all}
 use Rattle.std.specs.Fmt.{signed_decimal}
 use Rattle.std.specs.Int.RustNames.{unsigned_abs}
-use Rattle.ch_cells.specs.Number.{most, is_digit}
+use Rattle.ch_cells.specs.Number.{greatest_magnitude, is_digit}
 use Rattle.ch_sql_tokens.specs.Byte.{is_letter, is_word_byte, begins_with}
 use Rattle.ch_sql_tokens.specs.declared.token.Token.{Token}
 use Rattle.ch_sql_tokens.specs.declared.token.Token.TheVariants as token
@@ -48,7 +48,7 @@ is_word (b ∷ bs) = is_letter b && list_all is_word_byte bs
 abbrev pub IsToken : Token → Type 0
 IsToken (token.Word w) = is_word w ≡ true
 IsToken (token.Quoted name) = name ≢ []
-IsToken (token.Number v) = unsigned_abs v ≤ most
+IsToken (token.Number v) = unsigned_abs v ≤ greatest_magnitude
 IsToken (token.Text text) = Unit {0}
 IsToken (token.Symbol s) = Unit {0}
 

@@ -12,29 +12,29 @@ use Rattle.ch_ir.specs.declared.program.Operand.{Operand}
 use Rattle.ch_ir.specs.declared.program.Operand.TheVariants.{Word, Const}
 use Rattle.ch_ir.specs.declared.program.Binary.{Binary}
 use Rattle.ch_ir.specs.declared.program.Binary.TheVariants as binary
-use Rattle.ch_ir.specs.declared.rules.Span.{Span}
+use Rattle.ch_ir.specs.declared.rules.Interval.{Interval}
 use Rattle.ch_ir.specs.declared.rules.Refused.{Refused}
 use Rattle.ch_ir.specs.declared.rules.Refused.TheVariants as refused
 use Rattle.ch_ir.specs.declared.program.Op.{Op}
 use Rattle.ch_ir.specs.declared.program.Op.TheVariants.{Set, Two, Bit, Pick, Hash}
 use Rattle.ch_ir.specs.Hash.{hash_of, hash_of-below}
 use Rattle.ch_ir.specs.Machine.{Words, put, read, read_words, truth, is_set, two_of, bit_of, both, picked, op_to, op_value, exec_ops}
-use Rattle.ch_ir.specs.Rules.{Known, learn, whole, flag, or_whole, span_of, two_span, hull, op_span, first_unknown, operands_of, has_modulus, word_refusal, operands_refusal, or_else, needs, op_refusal, ops_refusal, after_ops}
+use Rattle.ch_ir.specs.Rules.{Known, learn, whole, flag, or_whole, interval_of, two_interval, hull, op_interval, first_unknown, operands_of, has_modulus, word_refusal, operands_refusal, or_else, needs, op_refusal, ops_refusal, after_ops}
 use Rattle.ch_verify.specs.Fits.{ConstFits, OpFits, AllOpsFit}
 
--- a value within the span
-pub record Lies (s : Span) (o : Option ℤ) : Type 0 where
+-- a value within the interval
+pub record Lies (s : Interval) (o : Option ℤ) : Type 0 where
   pub value : ℤ
   pub is : o ≡ Some value
   pub low : s.low ≤ℤ value
   pub high : value ≤ℤ s.high
   pub fits : FitsSigned w64 value
 
-abbrev pub Covered : Option Span → Option ℤ → Type 0
+abbrev pub Covered : Option Interval → Option ℤ → Type 0
 Covered None o = Unit {0}
 Covered (Some s) o = Lies s o
 
--- each known word has a value within its span
+-- each known word has a value within its interval
 abbrev pub Covers : Known → Words → Type 0
 Covers ks ws = (w : ℕ) → Covered (ks w) (ws w)
 
@@ -49,11 +49,11 @@ known_head ks (Word w) rest h = elim (cases_Bool (is_some (ks w))) [
   | inr e ↦ let bad : Some w ≡ None = rw e at h in cc
 ]
 
-covered_some : (o : Option Span) (v : Option ℤ) → is_some o ≡ true → Covered o v → Lies (or_whole o) v
+covered_some : (o : Option Interval) (v : Option ℤ) → is_some o ≡ true → Covered o v → Lies (or_whole o) v
 covered_some None v h c = cc
 covered_some (Some s) v h c = c
 
-pub lies_at : (ks : Known) (ws : Words) (a : Operand) → Covers ks ws → ConstFits a → is_known ks a ≡ true → Lies (span_of ks a) (read ws a)
+pub lies_at : (ks : Known) (ws : Words) (a : Operand) → Covers ks ws → ConstFits a → is_known ks a ≡ true → Lies (interval_of ks a) (read ws a)
 lies_at ks ws (Word w) c f h = covered_some (ks w) (ws w) h (c w)
 lies_at ks ws (Const v) c f h = record { value = v; is = refl; low = omega (arith, ints); high = omega (arith, ints); fits = f }
 
@@ -100,7 +100,7 @@ within_whole (negsuc n) h = (let k = h.sfits in omega (arith, ints), omega (arit
 pub le_true : (a b : ℤ) → int_le a b ≡ true → a ≤ℤ b
 le_true a b h = grind (arith, ints)
 
-masked : (a b : Span) (x y : ℤ) → (int_le (pos 0) a.low && int_le (pos 0) b.low) ≡ true → a.low ≤ℤ x → x ≤ℤ a.high → FitsSigned w64 x → b.low ≤ℤ y → y ≤ℤ b.high → FitsSigned w64 y
+masked : (a b : Interval) (x y : ℤ) → (int_le (pos 0) a.low && int_le (pos 0) b.low) ≡ true → a.low ≤ℤ x → x ≤ℤ a.high → FitsSigned w64 x → b.low ≤ℤ y → y ≤ℤ b.high → FitsSigned w64 y
     → Lies (record { low = pos 0; high = int_min a.high b.high }) (Some (two_of binary.Mask x y))
 masked a b (pos m) (pos n) t al ah af bl bh bf =
     let l = and_le_l m n in
@@ -115,8 +115,8 @@ masked a b (negsuc m) y t al ah af bl bh bf =
     let q = le_true (pos 0) a.low ((and_parts (int_le (pos 0) a.low) (int_le (pos 0) b.low) t).0) in
     let bad : ⊥ = omega (arith, ints) in elim bad [ ]
 
-two_values : (kind : Binary) (a b : Span) (x y : ℤ) → a.low ≤ℤ x → x ≤ℤ a.high → FitsSigned w64 x → b.low ≤ℤ y → y ≤ℤ b.high → FitsSigned w64 y
-    → Lies (two_span kind a b) (Some (two_of kind x y))
+two_values : (kind : Binary) (a b : Interval) (x y : ℤ) → a.low ≤ℤ x → x ≤ℤ a.high → FitsSigned w64 x → b.low ≤ℤ y → y ≤ℤ b.high → FitsSigned w64 y
+    → Lies (two_interval kind a b) (Some (two_of kind x y))
 two_values binary.Add a b x y al ah af bl bh bf = record {
   value = saturate_signed w64 (x +ℤ y);
   is = refl;
@@ -142,7 +142,7 @@ two_values binary.Mask a b x y al ah af bl bh bf = elim (cases_Bool (int_le (pos
   | inr t ↦ rw t (record { value = two_of binary.Mask x y; is = refl; low = (within_whole (two_of binary.Mask x y) (mask_fits x y)).0; high = (within_whole (two_of binary.Mask x y) (mask_fits x y)).1; fits = mask_fits x y })
 ]
 
-two_lies : (kind : Binary) (a b : Span) (x y : Option ℤ) → Lies a x → Lies b y → Lies (two_span kind a b) (both (two_of kind) x y)
+two_lies : (kind : Binary) (a b : Interval) (x y : Option ℤ) → Lies a x → Lies b y → Lies (two_interval kind a b) (both (two_of kind) x y)
 two_lies kind a b x y la lb = rw (la.is, lb.is) (two_values kind a b la.value lb.value la.low la.high la.fits lb.low lb.high lb.fits)
 
 bit_lies : (a : ℤ) → Lies (record { low = pos 0; high = pos (2 ^ 61) }) (Some (bit_of a))
@@ -153,7 +153,7 @@ bit_lies (pos n) = elim (cases_Bool (nat_lt n 62)) [
   | inr t ↦ rw t (record { value = pos 0; is = refl; low = omega (arith, ints); high = omega (arith, ints); fits = record { sfits = omega arith } })
 ]
 
-picked_lies : (a b c : Span) (x y z : Option ℤ) → Lies a x → Lies b y → Lies c z → Lies (hull b c) (picked x y z)
+picked_lies : (a b c : Interval) (x y z : Option ℤ) → Lies a x → Lies b y → Lies c z → Lies (hull b c) (picked x y z)
 picked_lies a b c x y z la lb lc = rw (la.is, lb.is, lc.is) (elim (cases_Bool (is_set la.value)) [
   | inl t ↦ let l = lb.low in let h = lb.high in
       rw t (record { value = lb.value; is = refl; low = omega (arith, ints, clamps); high = omega (arith, ints, clamps); fits = lb.fits })
@@ -177,28 +177,28 @@ hash_lies ks ws c seed modulus words p q h =
     let b = hash_of-below seed all.0 modulus p in
     rw all.1 (record { value = pos (hash_of seed all.0 modulus); is = refl; low = omega (arith, ints); high = omega (arith, ints); fits = record { sfits = omega arith } })
 
--- an op that breaks no rule has a value within its span
+-- an op that breaks no rule has a value within its interval
 pub op_lies : (stage : ℕ) (ks : Known) (ws : Words) → Covers ks ws → (op : Op) → OpFits op → first_unknown ks (operands_of op) ≡ None → has_modulus op ≡ true
-    → Lies (op_span ks op) (op_value ws op)
+    → Lies (op_interval ks op) (op_value ws op)
 op_lies stage ks ws c (Set to a) f h s =
     let k = known_head ks a [] h in lies_at ks ws a c f.consts.0 k.0
 op_lies stage ks ws c (Two to kind a b) f h s =
     let k = known_head ks a (b ∷ []) h in
     let l = known_head ks b [] k.1 in
-    two_lies kind (span_of ks a) (span_of ks b) (read ws a) (read ws b) (lies_at ks ws a c f.consts.0 k.0) (lies_at ks ws b c f.consts.1.0 l.0)
+    two_lies kind (interval_of ks a) (interval_of ks b) (read ws a) (read ws b) (lies_at ks ws a c f.consts.0 k.0) (lies_at ks ws b c f.consts.1.0 l.0)
 op_lies stage ks ws c (Bit to a) f h s =
     let k = known_head ks a [] h in let l = lies_at ks ws a c f.consts.0 k.0 in rw l.is (bit_lies l.value)
 op_lies stage ks ws c (Pick to x y z) f h s =
     let k = known_head ks x (y ∷ z ∷ []) h in
     let l = known_head ks y (z ∷ []) k.1 in
     let m = known_head ks z [] l.1 in
-    picked_lies (span_of ks x) (span_of ks y) (span_of ks z) (read ws x) (read ws y) (read ws z)
+    picked_lies (interval_of ks x) (interval_of ks y) (interval_of ks z) (read ws x) (read ws y) (read ws z)
     (lies_at ks ws x c f.consts.0 k.0) (lies_at ks ws y c f.consts.1.0 l.0) (lies_at ks ws z c f.consts.1.1.0 m.0)
 op_lies stage ks ws c (Hash to seed modulus words) f h s =
     hash_lies ks ws c seed modulus words (ltb-true 0 modulus s) f.modulus h
 
--- to learn a span and to put a value within it
-pub covers_put : (ks : Known) (ws : Words) → Covers ks ws → (to : ℕ) (s : Span) (v : ℤ) → Lies s (Some v) → Covers (learn ks to s) (put ws to v)
+-- to learn an interval and to put a value within it
+pub covers_put : (ks : Known) (ws : Words) → Covers ks ws → (to : ℕ) (s : Interval) (v : ℤ) → Lies s (Some v) → Covers (learn ks to s) (put ws to v)
 covers_put ks ws c to s v l w = elim (cases_Bool (nat_eq w to)) [
   | inl t ↦ rw t l
   | inr t ↦ rw t (c w)
@@ -213,10 +213,10 @@ pub record OpsRun (ks : Known) (o : Option Words) : Type 0 where
 pub ops_run : (stage : ℕ) (ops : List Op) (ks : Known) (ws : Words) → AllOpsFit ops → Covers ks ws → ops_refusal stage ks ops ≡ None → OpsRun (after_ops ops ks) (exec_ops ops ws)
 ops_run stage [] ks ws f c h = record { words = ws; is = refl; covers = c }
 ops_run stage (op ∷ ops) ks ws f c h =
-    let parts = none_else (op_refusal stage ks op) (ops_refusal stage (learn ks (op_to op) (op_span ks op)) ops) h in
+    let parts = none_else (op_refusal stage ks op) (ops_refusal stage (learn ks (op_to op) (op_interval ks op)) ops) h in
     let two = none_else (needs (has_modulus op) (refused.Shape stage)) _ parts.0 in
     let three = none_else (operands_refusal stage ks (operands_of op)) _ two.1 in
     let l = op_lies stage ks ws c op f.0 (no_unknown stage (first_unknown ks (operands_of op)) three.0) (needs_none (has_modulus op) (refused.Shape stage) two.0) in
-    let lies : Lies (op_span ks op) (Some l.value) = subst (Lies (op_span ks op)) l.is l in
-    let more = ops_run stage ops (learn ks (op_to op) (op_span ks op)) (put ws (op_to op) l.value) f.1 (covers_put ks ws c (op_to op) (op_span ks op) l.value lies) parts.1 in
+    let lies : Lies (op_interval ks op) (Some l.value) = subst (Lies (op_interval ks op)) l.is l in
+    let more = ops_run stage ops (learn ks (op_to op) (op_interval ks op)) (put ws (op_to op) l.value) f.1 (covers_put ks ws c (op_to op) (op_interval ks op) l.value lies) parts.1 in
     record { words = more.words; is = rw l.is more.is; covers = more.covers }

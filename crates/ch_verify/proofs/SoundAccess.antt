@@ -11,13 +11,13 @@ use Rattle.ch_ir.specs.declared.program.Operand.TheVariants.{Word, Const}
 use Rattle.ch_ir.specs.declared.program.Update.{Update}
 use Rattle.ch_ir.specs.declared.program.Update.TheVariants as update
 use Rattle.ch_ir.specs.declared.program.Array.{Array}
-use Rattle.ch_ir.specs.declared.rules.Span.{Span}
+use Rattle.ch_ir.specs.declared.rules.Interval.{Interval}
 use Rattle.ch_ir.specs.declared.rules.Refused.TheVariants as refused
 use Rattle.ch_ir.specs.declared.program.Access.{Access}
 use Rattle.ch_ir.specs.declared.program.Stage.{Stage}
 use Rattle.ch_ir.specs.declared.program.Program.{Program}
 use Rattle.ch_ir.specs.Machine.{Words, Registers, State, put, put_all, read, read_all, truth, is_set, updated, update_all, index_of, at_entry, exec_access, exec_accesses, exec_stage, exec_stages, cells_of, holds_at, given, machine, ends}
-use Rattle.ch_ir.specs.Rules.{Known, learn, whole, flag, span_of, first_unknown, operands_refusal, needs, update_operands, entries_of, access_operands, has_shape, range_refusal, reach_refusal, access_refusal, accesses_refusal, ops_refusal, stage_refusal, stages_refusal, verdict_refusal, rule_refusal, Used, none_used, with_arrays, after_old, after_access, after_accesses, after_ops, after_stage, after_stages, inputs, key_words, test_fits, BreaksNoRule}
+use Rattle.ch_ir.specs.Rules.{Known, learn, whole, flag, interval_of, first_unknown, operands_refusal, needs, update_operands, entries_of, access_operands, has_shape, range_refusal, reach_refusal, access_refusal, accesses_refusal, ops_refusal, stage_refusal, stages_refusal, verdict_refusal, rule_refusal, Used, none_used, with_arrays, after_old, after_access, after_accesses, after_ops, after_stage, after_stages, inputs, key_words, test_fits, BreaksNoRule}
 use Rattle.ch_verify.specs.Fits.{AllConstFit, AllFits, RegistersFit, AllAccessesFit, StageFits, AllStagesFit}
 use Rattle.ch_verify.specs.Checked.{HasValue}
 use Rattle.ch_verify.proofs.Sound.{Lies, Covered, Covers, ops_run, covers_put, known_head, lies_at, saturated_fits, signed_fits, none_else, needs_none, no_unknown, le_true, within_whole, truth_lies}
@@ -105,7 +105,7 @@ index_in : (v : ℤ) (len : ℕ) → pos 0 ≤ℤ v → v <ℤ pos len → Index
 index_in (pos n) len l h = let lt : n < len = omega (arith, ints) in record { entry = n; is = rw (lt-ltb n len lt) refl; inside = lt }
 index_in (negsuc n) len l h = let bad : ⊥ = omega (arith, ints) in elim bad [ ]
 
-in_range : (stage : ℕ) (s : Span) (len : ℕ) → range_refusal stage s len ≡ None → (pos 0 ≤ℤ s.low) × (s.high <ℤ pos len)
+in_range : (stage : ℕ) (s : Interval) (len : ℕ) → range_refusal stage s len ≡ None → (pos 0 ≤ℤ s.low) × (s.high <ℤ pos len)
 in_range stage s len h =
     let parts = and_parts (int_le (pos 0) s.low) (int_lt s.high (pos len)) (needs_none _ (refused.IndexRange stage s.low s.high len) h) in
     (le_true (pos 0) s.low parts.0, lt_true s.high (pos len) parts.1)
@@ -200,7 +200,7 @@ access_runs arrays stage used x ks s f c r h =
     let index = lies_at ks s.words x.index c f.0 k1.0 in
     let guard = lies_at ks s.words x.guard c f.1.0 k2.0 in
     let key = all_read ks s.words c x.key f3.0 k3.0 in
-    let range = in_range stage (span_of ks x.index) (entries_of arrays x.array) p3.1 in
+    let range = in_range stage (interval_of ks x.index) (entries_of arrays x.array) p3.1 in
     let low : pos 0 ≤ℤ index.value = let a = range.0 in let b = index.low in omega (arith, ints) in
     let high : index.value <ℤ pos (entries_of arrays x.array) = let a = range.1 in let b = index.high in omega (arith, ints) in
     let at = index_in index.value (entries_of arrays x.array) low high in
@@ -274,7 +274,7 @@ input_covers width row f w = elim (cases_Bool (nat_lt w width)) [
   | inr t ↦ rw t tt
 ]
 
-pub known_value : (o : Option Span) (v : Option ℤ) → is_some o ≡ true → Covered o v → (x : ℤ) × (v ≡ Some x)
+pub known_value : (o : Option Interval) (v : Option ℤ) → is_some o ≡ true → Covered o v → (x : ℤ) × (v ≡ Some x)
 known_value None v h c = cc
 known_value (Some s) v h c = (c.value, c.is)
 

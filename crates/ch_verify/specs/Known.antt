@@ -1,9 +1,9 @@
--- What a list of spans says of the words, and a list of flags of the arrays.
+-- What a list of intervals says of the words, and a list of flags of the arrays.
 use Rattle.std.specs.Prelude.{Bool, false, List, Option, None, get_or}
-use Rattle.ch_ir.specs.declared.rules.Span.{Span}
+use Rattle.ch_ir.specs.declared.rules.Interval.{Interval}
 use Rattle.ch_ir.specs.Rules.{Known, Used}
 
-abbrev pub known_of : List (Option Span) → Known
+abbrev pub known_of : List (Option Interval) → Known
 known_of ks w = get_or ks w None
 
 abbrev pub used_of : List Bool → Used

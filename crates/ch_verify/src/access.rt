@@ -5,11 +5,11 @@ ghost use Rattle.ch_ir.specs.Rules.{access_operands, access_refusal, accesses_re
 ghost use Rattle.ch_verify.specs.Fits.{AllConstFit, AllAccessesFit};
 ghost use Rattle.ch_verify.specs.Known.{known_of, used_of};
 
-use crate::known::{FLAG, WHOLE, is_known, learn, span_of, unknown};
-use ch_ir::{Access, Array, Operand, Refused, Span, Test, Update, cells_of, entries_of};
+use crate::known::{FLAG, WHOLE, interval_of, is_known, learn, unknown};
+use ch_ir::{Access, Array, Interval, Operand, Refused, Test, Update, cells_of, entries_of};
 
 #[tactic(auto, using(crate::proofs::Operands::first_append))]
-fn unknown_among(operands: &[Operand], known: &[Option<Span>]) -> Option<u32>
+fn unknown_among(operands: &[Operand], known: &[Option<Interval>]) -> Option<u32>
     ensures word { result ≡ first_unknown (known_of known.now) operands.now }
     ensures fits { IfNone result (AllConstFit operands.now) }
 {
@@ -21,7 +21,7 @@ fn unknown_among(operands: &[Operand], known: &[Option<Span>]) -> Option<u32>
     None
 }
 
-fn unknown_of_update(update: Update, known: &[Option<Span>]) -> Option<u32>
+fn unknown_of_update(update: Update, known: &[Option<Interval>]) -> Option<u32>
     ensures word { result ≡ first_unknown (known_of known.now) (update_operand update) }
     ensures fits { AllConstFit (update_operand update) }
 {
@@ -36,7 +36,7 @@ fn unknown_of_update(update: Update, known: &[Option<Span>]) -> Option<u32>
 }
 
 #[tactic(auto, using(crate::proofs::Operands::first_append, crate::proofs::Operands::fits_append))]
-fn unknown_in_updates(updates: &[Update], known: &[Option<Span>]) -> Option<u32>
+fn unknown_in_updates(updates: &[Update], known: &[Option<Interval>]) -> Option<u32>
     ensures word { result ≡ first_unknown (known_of known.now) (update_operands updates.now) }
     ensures fits { IfNone result (AllConstFit (update_operands updates.now)) }
 {
@@ -50,7 +50,7 @@ fn unknown_in_updates(updates: &[Update], known: &[Option<Span>]) -> Option<u32>
 
 /// The first word that the updates of an access read and that has no value.
 #[tactic(auto, using(crate::proofs::Operands::first_append, crate::proofs::Operands::fits_append))]
-fn unknown_in_both(x: &Access, known: &[Option<Span>]) -> Option<u32>
+fn unknown_in_both(x: &Access, known: &[Option<Interval>]) -> Option<u32>
     ensures word { result ≡ first_unknown (known_of known.now) (update_operands x.now.yes ++ update_operands x.now.no) }
     ensures fits { IfNone result (AllConstFit (update_operands x.now.yes ++ update_operands x.now.no)) }
 {
@@ -61,7 +61,7 @@ fn unknown_in_both(x: &Access, known: &[Option<Span>]) -> Option<u32>
 }
 
 #[tactic(auto, using(crate::proofs::Operands::first_append, crate::proofs::Operands::fits_append))]
-fn unknown_after_guard(x: &Access, known: &[Option<Span>]) -> Option<u32>
+fn unknown_after_guard(x: &Access, known: &[Option<Interval>]) -> Option<u32>
     ensures word { result ≡ first_unknown (known_of known.now) (x.now.key ++ (update_operands x.now.yes ++ update_operands x.now.no)) }
     ensures fits { IfNone result (AllConstFit (x.now.key ++ (update_operands x.now.yes ++ update_operands x.now.no))) }
 {
@@ -72,7 +72,7 @@ fn unknown_after_guard(x: &Access, known: &[Option<Span>]) -> Option<u32>
 }
 
 #[tactic(auto, using(crate::proofs::Operands::first_append))]
-fn unknown_after_index(x: &Access, known: &[Option<Span>]) -> Option<u32>
+fn unknown_after_index(x: &Access, known: &[Option<Interval>]) -> Option<u32>
     ensures word { result ≡ first_unknown (known_of known.now) (x.now.guard ∷ x.now.key ++ (update_operands x.now.yes ++ update_operands x.now.no)) }
     ensures fits { IfNone result (AllConstFit (x.now.guard ∷ x.now.key ++ (update_operands x.now.yes ++ update_operands x.now.no))) }
 {
@@ -84,7 +84,7 @@ fn unknown_after_index(x: &Access, known: &[Option<Span>]) -> Option<u32>
 
 /// The first word that an access reads and that has no value: of the index, the guard, the key, and the updates.
 #[tactic(auto, using(crate::proofs::Operands::first_append))]
-fn unknown_of_access(x: &Access, known: &[Option<Span>]) -> Option<u32>
+fn unknown_of_access(x: &Access, known: &[Option<Interval>]) -> Option<u32>
     ensures word { result ≡ first_unknown (known_of known.now) (access_operands x.now) }
     ensures fits { IfNone result (AllConstFit (access_operands x.now)) }
 {
@@ -130,16 +130,16 @@ fn has_shape(arrays: &[Array], x: &Access) -> bool
         && test_fits(x.test, cells)
 }
 
-fn range_refusal(stage: u32, span: Span, len: u32) -> Option<Refused>
-    ensures { result ≡ range_refusal stage span len }
+fn range_refusal(stage: u32, interval: Interval, len: u32) -> Option<Refused>
+    ensures { result ≡ range_refusal stage interval len }
 {
-    if 0 <= span.low && span.high < i64::from(len) {
+    if 0 <= interval.low && interval.high < i64::from(len) {
         None
     } else {
         Some(Refused::IndexRange {
             stage,
-            low: span.low,
-            high: span.high,
+            low: interval.low,
+            high: interval.high,
             len,
         })
     }
@@ -163,7 +163,7 @@ fn reach_refusal(
     arrays: &[Array],
     stage: u32,
     used: &[bool],
-    known: &[Option<Span>],
+    known: &[Option<Interval>],
     x: &Access,
 ) -> Option<Refused>
     ensures rule { result ≡ reach_refusal arrays.now stage (used_of used.now) (known_of known.now) x.now }
@@ -179,11 +179,15 @@ fn reach_refusal(
     if let Some(word) = unknown_of_access(x, known) {
         return Some(Refused::Word { stage, word });
     }
-    range_refusal(stage, span_of(x.index, known), entries_of(arrays, x.array))
+    range_refusal(
+        stage,
+        interval_of(x.index, known),
+        entries_of(arrays, x.array),
+    )
 }
 
 /// Assigns the old words in turn.
-fn old_refusal(stage: u32, old: u32, cells: u32, known: &mut [Option<Span>]) -> Option<Refused>
+fn old_refusal(stage: u32, old: u32, cells: u32, known: &mut [Option<Interval>]) -> Option<Refused>
     requires room { old + cells ≤ length known.old }
     requires small { length known.old < 2 ^ 32 }
     ensures rule { result ≡ old_refusal stage old cells (known_of known.old) }
@@ -200,7 +204,12 @@ fn old_refusal(stage: u32, old: u32, cells: u32, known: &mut [Option<Span>]) -> 
 }
 
 /// Assigns the old words and hit.
-fn assign_refusal(stage: u32, cells: u32, x: &Access, known: &mut [Option<Span>]) -> Option<Refused>
+fn assign_refusal(
+    stage: u32,
+    cells: u32,
+    x: &Access,
+    known: &mut [Option<Interval>],
+) -> Option<Refused>
     requires room { x.now.old + cells ≤ length known.old }
     requires hit { x.now.hit < length known.old }
     requires small { length known.old < 2 ^ 32 }
@@ -223,7 +232,7 @@ fn access_refusal(
     arrays: &[Array],
     stage: u32,
     used: &mut [bool],
-    known: &mut [Option<Span>],
+    known: &mut [Option<Interval>],
     x: &Access,
 ) -> Option<Refused>
     requires room { access_end arrays.now x.now ≤ length known.old }
@@ -249,7 +258,7 @@ pub fn accesses_refusal(
     arrays: &[Array],
     stage: u32,
     used: &mut [bool],
-    known: &mut [Option<Span>],
+    known: &mut [Option<Interval>],
     accesses: &[Access],
 ) -> Option<Refused>
     requires room { accesses_end arrays.now accesses.now ≤ length known.old }

@@ -9,7 +9,7 @@ use crate::known::{WHOLE, is_known};
 use crate::sizes::measure;
 use crate::stages::stages_refusal;
 use ch_cells::Memory;
-use ch_ir::{LimitName, Profile, Program, Refused, Sizes, Span};
+use ch_ir::{Interval, LimitName, Profile, Program, Refused, Sizes};
 use std::alloc::Global;
 
 fn over(which: LimitName, need: u64, have: u32) -> Option<Refused>
@@ -44,7 +44,7 @@ fn limit_refusal(sizes: Sizes, profile: &Profile) -> Option<Refused>
     over(LimitName::Ops, u64::from(sizes.ops), profile.ops)
 }
 
-fn input_span(word: usize, width: u32) -> Option<Span>
+fn input_interval(word: usize, width: u32) -> Option<Interval>
     ensures { result ≡ inputs width word }
 {
     if word < width as usize {
@@ -55,14 +55,14 @@ fn input_span(word: usize, width: u32) -> Option<Span>
 }
 
 /// What is known before the first stage, of so many words.
-fn first_known(alloc: Global, width: u32, words: usize) -> Result<Vec<Option<Span>>, Memory>
+fn first_known(alloc: Global, width: u32, words: usize) -> Result<Vec<Option<Interval>>, Memory>
     requires { width ≤ words }
     ensures known { IfOk result (λ v. known_of v.items ≡ inputs width) }
     ensures len { IfOk result (λ v. vec_len v ≡ words) }
 {
     let mut known = Vec::new(alloc);
     for word in 0..words {
-        known.push(input_span(word, width))?;
+        known.push(input_interval(word, width))?;
     }
     Ok(known)
 }
@@ -107,7 +107,7 @@ fn rule_refusal(alloc: Global, program: &Program, words: usize) -> Result<Option
     ))
 }
 
-fn verdict_refusal(stages: u32, known: &[Option<Span>], verdict: u32) -> Option<Refused>
+fn verdict_refusal(stages: u32, known: &[Option<Interval>], verdict: u32) -> Option<Refused>
     ensures { result ≡ verdict_refusal stages (known_of known.now) verdict }
 {
     if is_known(verdict, known) {

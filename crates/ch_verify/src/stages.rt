@@ -6,14 +6,14 @@ ghost use Rattle.ch_verify.specs.Known.{known_of, used_of};
 
 use crate::access::accesses_refusal;
 use crate::known::ops_refusal;
-use ch_ir::{Array, Refused, Span, Stage};
+use ch_ir::{Array, Interval, Refused, Stage};
 
 /// The first rule that a stage breaks. Where there is none, what it assigns is known then, and its array is used.
 fn stage_refusal(
     arrays: &[Array],
     stage: u32,
     used: &mut [bool],
-    known: &mut [Option<Span>],
+    known: &mut [Option<Interval>],
     t: &Stage,
 ) -> Option<Refused>
     requires room { stage_end arrays.now t.now ≤ length known.old }
@@ -35,7 +35,7 @@ pub fn stages_refusal(
     arrays: &[Array],
     stages: &[Stage],
     used: &mut [bool],
-    known: &mut [Option<Span>],
+    known: &mut [Option<Interval>],
 ) -> Option<Refused>
     requires room { stages_end arrays.now stages.now ≤ length known.old }
     requires small { length known.old < 2 ^ 32 }
