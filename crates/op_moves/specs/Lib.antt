@@ -1,0 +1,12 @@
+pub mod Moves
+pub mod Made
+pub mod Values
+pub mod InOrder
+pub mod Fits
+pub mod Entries
+pub mod Sheets
+pub mod Reads
+pub mod Within
+pub mod Steps
+pub mod Columns
+pub mod Built
