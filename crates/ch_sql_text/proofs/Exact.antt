@@ -7,7 +7,7 @@ use Rattle.std.specs.Int.RustNames.{unsigned_abs}
 use Rattle.std.proofs.lemmas.Bool.Decides.{nat_tests}
 use Rattle.std.proofs.lemmas.Fmt.{digits_decimal, decimal_nonempty}
 use Rattle.std.proofs.lemmas.List.{take-append-le}
-use Rattle.ch_cells.specs.Number.{most, is_digit, number_of}
+use Rattle.ch_cells.specs.Number.{greatest_magnitude, is_digit, number_of}
 use Rattle.ch_cells.proofs.Spelling.{own}
 use Rattle.ch_sql_tokens.specs.declared.token.Token.{Token}
 use Rattle.ch_sql_tokens.specs.declared.token.Token.TheVariants as token
@@ -136,7 +136,7 @@ exact_digits (c ∷ cs) more some all h =
     let digit = (both (is_digit c) (all_ascii_digits cs) all).0 in
     front_number c (cs ++ more) digit ∙ number_apart c cs more h ∙ sym (front_number c cs digit)
 
-exact_number : (v : ℤ) (more : List ℕ) → unsigned_abs v ≤ most → Stops more → front_of (signed_decimal v ++ more) ≡ Found (token.Number v) (length (signed_decimal v))
+exact_number : (v : ℤ) (more : List ℕ) → unsigned_abs v ≤ greatest_magnitude → Stops more → front_of (signed_decimal v ++ more) ≡ Found (token.Number v) (length (signed_decimal v))
 exact_number (pos n) more range h =
     let fits : n < 2 ^ 64 = omega arith in
     exact_digits (decimal n) more (decimal_nonempty n fits) (digits_decimal own n fits) h ∙ alone (token.Number (pos n)) range

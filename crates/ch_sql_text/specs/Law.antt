@@ -1,7 +1,7 @@
 -- Which printed tokens a text can spell.
 use Rattle.std.specs.Prelude.{◌≤◌, ◌≢◌, List, [], map}
 use Rattle.std.specs.Int.RustNames.{unsigned_abs}
-use Rattle.ch_cells.specs.Number.{most}
+use Rattle.ch_cells.specs.Number.{greatest_magnitude}
 use Rattle.ch_sql_tokens.specs.declared.token.Token.{Token}
 use Rattle.ch_sql_grammar.specs.declared.terminal.Terminal.{Terminal}
 use Rattle.ch_sql_grammar.specs.declared.terminal.Terminal.TheVariants as terminal
@@ -13,7 +13,7 @@ use Rattle.ch_sql_text.specs.Printed.{printed_tokens}
 abbrev pub IsSpellable : Terminal → Type 0
 IsSpellable (terminal.Mark m) = Unit {0}
 IsSpellable (terminal.Name name) = name ≢ []
-IsSpellable (terminal.Number n) = unsigned_abs n ≤ most
+IsSpellable (terminal.Number n) = unsigned_abs n ≤ greatest_magnitude
 IsSpellable (terminal.Text text) = Unit {0}
 
 -- the tokens that stand in the query's text

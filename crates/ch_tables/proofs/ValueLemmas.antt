@@ -7,7 +7,7 @@ use Rattle.std.proofs.lemmas.List.FromFn.{fill_by_all}
 use Rattle.std.proofs.lemmas.List.Sums.{sum_by-cons}
 use Rattle.std.proofs.lemmas.Option.{get_or_from_slice_get, slice_get_within}
 use Rattle.std.specs.Int.RustNames.{unsigned_abs}
-use Rattle.ch_cells.specs.Number.{most, number_of}
+use Rattle.ch_cells.specs.Number.{greatest_magnitude, number_of}
 use Rattle.ch_cells.proofs.Spelling.{law}
 use Rattle.ch_cells.specs.declared.cell.Cell.{Cell}
 use Rattle.ch_cells.specs.declared.cell.Cell.TheVariants as cell
@@ -105,7 +105,7 @@ within-places texts (text ∷ column) (at ∷ places) e (suc k) d h =
     let rest : ArePlaces texts column places = cc in
     within-places texts column places rest k d (omega arith)
 
-in-range : (column : List (List ℕ)) (numbers : List ℤ) → map number_of column ≡ map Some numbers → (k : ℕ) (d : ℤ) → k < length numbers → unsigned_abs (get_or numbers k d) ≤ most
+in-range : (column : List (List ℕ)) (numbers : List ℤ) → map number_of column ≡ map Some numbers → (k : ℕ) (d : ℤ) → k < length numbers → unsigned_abs (get_or numbers k d) ≤ greatest_magnitude
 in-range column [] e k d h = absurd (omega arith)
 in-range [] (n ∷ numbers) e k d h = cc
 in-range (text ∷ column) (n ∷ numbers) e zero d h =

@@ -3,7 +3,7 @@ use Rattle.std.specs.Prelude.{◌≡◌, ℕ, ◌-◌, ◌<◌, ◌≤◌, ◌^�
 use Rattle.std.specs.Global.{Global}
 use Rattle.std.specs.List.{list_all, range_with_len}
 use Rattle.std.specs.Int.RustNames.{unsigned_abs}
-use Rattle.ch_cells.specs.Number.{most, number_of}
+use Rattle.ch_cells.specs.Number.{greatest_magnitude, number_of}
 use Rattle.ch_cells.specs.declared.cell.Cell.{Cell}
 use Rattle.ch_cells.specs.declared.cell.Cell.TheVariants as cell
 use Rattle.ch_cells.specs.declared.cell.Kind.{Kind}
@@ -76,7 +76,7 @@ value_of t = record {
 }
 
 abbrev pub IsColumn : List (List ℕ) → ℕ → Column → Type 0
-IsColumn texts rows (Numbers numbers) = (length numbers.items ≡ rows) × All (λ n. unsigned_abs n ≤ most) numbers.items
+IsColumn texts rows (Numbers numbers) = (length numbers.items ≡ rows) × All (λ n. unsigned_abs n ≤ greatest_magnitude) numbers.items
 IsColumn texts rows (Places places) = (length places.items ≡ rows) × All (λ at. at < length texts) places.items
 
 -- what a table keeps

@@ -2,7 +2,7 @@
 use Rattle.std.specs.Prelude.{ℕ, ◌≤◌, List, [], ◌∷◌, length, map, flat_map, slice_index_or, Option, Some, None, is_some, Result, Ok, Err, ℤ, Bool, if◌then◌else◌}
 use Rattle.std.specs.List.{list_all, range_with_len, zip}
 use Rattle.std.specs.Int.RustNames.{unsigned_abs}
-use Rattle.ch_cells.specs.Number.{most, number_of}
+use Rattle.ch_cells.specs.Number.{greatest_magnitude, number_of}
 use Rattle.ch_cells.specs.declared.cell.Cell.{Cell}
 use Rattle.ch_cells.specs.declared.cell.Cell.TheVariants as cell
 use Rattle.ch_cells.specs.declared.cell.Kind.{Kind}
@@ -41,7 +41,7 @@ cell_as kind.Void text = cell.Text text
 
 -- a cell is of its column's kind, and a number is in range
 abbrev pub IsOfKind : Kind → Cell → Type 0
-IsOfKind kind.Number (cell.Number n) = unsigned_abs n ≤ most
+IsOfKind kind.Number (cell.Number n) = unsigned_abs n ≤ greatest_magnitude
 IsOfKind kind.Number (cell.Text text) = ⊥
 IsOfKind kind.Text (cell.Number n) = ⊥
 IsOfKind kind.Text (cell.Text text) = Unit {0}
