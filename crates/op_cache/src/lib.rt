@@ -1,0 +1,11 @@
+//! The latest used keys of each hash row, in registers: a column of an array for each place of a list. Their moves, what they
+//! do, and the loop that emits them.
+#![tactic(auto)]
+
+mod columns;
+mod operands;
+#[cfg(test)]
+mod tests;
+
+pub use columns::{Columns, emit_columns};
+pub use operands::{put_each, words_from, words_of};
