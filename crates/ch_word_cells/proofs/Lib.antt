@@ -1,3 +1,3 @@
 mod Pairs
-mod Sent
+pub mod Sent
 mod Texts

@@ -64,14 +64,14 @@ module _ (texts : List (List ℕ)) (b : Bound) where
   abbrev kinds : ℕ → ℕ → Kind
   kinds = kinds_read b b.shape
 
-  side_fits : (side : ℕ) (row : List Cell) → Each (λ at. FitsKind texts (kinds side at) (slice_index_or row at (cell.Number (pos 0)))) (carried_of b side)
+  pub side_fits : (side : ℕ) (row : List Cell) → Each (λ at. FitsKind texts (kinds side at) (slice_index_or row at (cell.Number (pos 0)))) (carried_of b side)
       → (at : ℕ) → IsCarried b side at → FitsWord texts (kinds side at) (words_seen b (packed texts b side row) side at)
   side_fits side row f at c =
       subst (λ (w : ℤ). FitsWord texts (kinds side at) w)
       (sym (word_at (λ at. word_of texts (slice_index_or row at (cell.Number (pos 0)))) (carried_of b side) at c))
       (word_fits texts (kinds side at) (slice_index_or row at (cell.Number (pos 0))) (f at c))
 
-first_alone : (s : Shape) → ((left right : Col) → s ≢ shape.Join left right) → (has : ℕ → ℕ → Type 0) (side at : ℕ) → rows_have s has side at → has side at × (side ≡ 0)
+pub first_alone : (s : Shape) → ((left right : Col) → s ≢ shape.Join left right) → (has : ℕ → ℕ → Type 0) (side at : ℕ) → rows_have s has side at → has side at × (side ≡ 0)
 first_alone shape.Filter n has side at h = h
 first_alone shape.Distinct n has side at h = h
 first_alone (shape.Top by descending limit) n has side at h = h
@@ -81,7 +81,7 @@ first_alone (shape.Join left right) n has side at h = absurd (n left right refl)
 first_alone (shape.Skyline dims) n has side at h = h
 first_alone (shape.Semi key within) n has side at h = h
 
-of_pair : (s : Shape) (has : ℕ → ℕ → Type 0) (side at : ℕ) → rows_have s has side at → has side at
+pub of_pair : (s : Shape) (has : ℕ → ℕ → Type 0) (side at : ℕ) → rows_have s has side at → has side at
 of_pair shape.Filter has side at h = h.0
 of_pair shape.Distinct has side at h = h.0
 of_pair (shape.Top by descending limit) has side at h = h.0

@@ -6,7 +6,7 @@ use ch_cells::Kind;
 use ch_pred::{Bound, Col, Shape};
 
 /// The carried columns of a side.
-pub(crate) fn carried_of(query: &Bound, side: u8) -> &[u32]
+pub fn carried_of(query: &Bound, side: u8) -> &[u32]
     ensures { result.now ≡ sound.carried_of query.now side }
 {
     match query.carried.as_slice().get(side as usize) {
@@ -26,7 +26,7 @@ fn kinds_of(query: &Bound, side: u8) -> &[Kind]
 }
 
 /// Where a column stands among the carried ones; past them if it isn't carried.
-pub(crate) fn place_in(carried: &[u32], at: u32) -> usize
+pub fn place_in(carried: &[u32], at: u32) -> usize
     ensures { result ≡ sound.place_in carried.now at }
 {
     let mut place = 0;
@@ -73,7 +73,7 @@ fn key_read(query: &Bound, key: Col, other: Col, col: Col) -> Kind
 }
 
 /// The kind by which the words of a column are read.
-pub(crate) fn kind_read(query: &Bound, col: Col) -> Kind
+pub fn kind_read(query: &Bound, col: Col) -> Kind
     ensures { result ≡ packets.kinds_read query.now query.now.shape col.side col.at }
 {
     match &query.shape {

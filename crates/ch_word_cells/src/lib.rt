@@ -15,6 +15,7 @@ ghost use Rattle.ch_words.specs.Packets.{AreSound, kinds_read, packed, table_of}
 ghost use Rattle.ch_words.specs.Rows.{words_seen};
 ghost use Rattle.ch_word_cells.specs.Fits.{WordsFit};
 
+pub use kinds::{carried_of, kind_read, place_in};
 pub use word_cells::{WordCells, holds_on_pair, holds_on_row};
 
 /// The words that workers send fit: those of each row of the first table, unless the query is a join, and those of each pair

@@ -1,0 +1,7 @@
+pub mod Lines
+pub mod Ordered
+pub mod WordFits
+pub mod Held
+pub mod ShownLaws
+pub mod FilterLaws
+pub mod DistinctLaws

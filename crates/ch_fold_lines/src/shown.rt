@@ -1,0 +1,117 @@
+ghost use Rattle.std.specs.Prelude.{◌≡◌, IfOk, map};
+ghost use Rattle.ch_cells.specs.CellRef.{cell_of};
+ghost use Rattle.ch_fold_lines.specs.Shown as spec;
+
+use crate::places::printed_kinds;
+use ch_cells::{Answer, Bytes, CellRef, Header, Kind, Listed, Memory, Row, copy_lent};
+use ch_flat::Sorted;
+use ch_pred::Bound;
+use ch_ranks::Ranks;
+use std::alloc::Global;
+
+/// The cell that a word of a column of this kind stands for.
+fn shown_cell(ranks: &Ranks, kind: Kind, word: i64) -> CellRef<'_>
+    ensures { cell_of result ≡ spec.shown_cell ranks.now kind word }
+{
+    match kind {
+        Kind::Text => {
+            if word < 0 || word >= i64::from(ranks.size()) {
+                return CellRef::Number(word);
+            }
+            match ranks.text(word as u32) {
+                Some(text) => CellRef::Text(text),
+                None => CellRef::Number(word),
+            }
+        }
+        Kind::Number | Kind::Void => CellRef::Number(word),
+    }
+}
+
+/// The cells of a line.
+
+#[tactic(auto, using(crate::proofs::Lines::shown_more))]
+fn shown_line(alloc: Global, ranks: &Ranks, kinds: &[Kind], words: &[i64]) -> Result<Row, Memory>
+    ensures { IfOk result (λ row. row ≡ spec.shown_line ranks.now kinds.now words.now) }
+{
+    let mut row = Listed::new(alloc);
+    for (i, word) in words.iter().enumerate() {
+        let kind = match kinds.get(i) {
+            Some(kind) => *kind,
+            None => Kind::Number,
+        };
+        row.push(copy_lent(alloc, shown_cell(ranks, kind, *word))?)?;
+    }
+    Ok(row)
+}
+
+fn shown_lines(
+    alloc: Global,
+    ranks: &Ranks,
+    kinds: &[Kind],
+    lines: &Sorted<'_>,
+) -> Result<Listed<Row>, Memory>
+    ensures { IfOk result (λ rows. rows ≡ map (spec.shown_line ranks.now kinds.now) lines.now) }
+{
+    let mut rows = Listed::new(alloc);
+    for at in 0..lines.len() {
+        rows.push(shown_line(alloc, ranks, kinds, lines.row(at))?)?;
+    }
+    Ok(rows)
+}
+
+fn shown_slices(
+    alloc: Global,
+    ranks: &Ranks,
+    kinds: &[Kind],
+    lines: &[&[i64]],
+) -> Result<Listed<Row>, Memory>
+    ensures { IfOk result (λ rows. rows ≡ map (spec.shown_line ranks.now kinds.now) (map (λ l. l.now) lines.now)) }
+{
+    let mut rows = Listed::new(alloc);
+    for line in lines {
+        rows.push(shown_line(alloc, ranks, kinds, line)?)?;
+    }
+    Ok(rows)
+}
+
+fn copy_header(alloc: Global, header: &Header) -> Result<Header, Memory>
+    ensures { IfOk result (λ copy. copy ≡ header.now) }
+{
+    let mut copy = Listed::new(alloc);
+    for name in header.as_slice() {
+        copy.push(Bytes::from_slice(alloc, name.as_slice())?)?;
+    }
+    Ok(copy)
+}
+
+/// The answer that has the cells of some lines, in their order.
+pub fn answer_of_sorted(
+    alloc: Global,
+    query: &Bound,
+    ranks: &Ranks,
+    lines: &Sorted<'_>,
+) -> Result<Answer, Memory>
+    ensures header { IfOk result (λ a. a.header ≡ query.now.header) }
+    ensures rows { IfOk result (λ a. a.rows ≡ map (spec.shown_line ranks.now (spec.printed_kinds query.now)) lines.now) }
+{
+    let kinds = printed_kinds(alloc, query)?;
+    let rows = shown_lines(alloc, ranks, kinds.as_slice(), lines)?;
+    let header = copy_header(alloc, &query.header)?;
+    Ok(Answer { header, rows })
+}
+
+/// The answer that has the cells of some lines, in their order.
+pub fn answer_of_slices(
+    alloc: Global,
+    query: &Bound,
+    ranks: &Ranks,
+    lines: &[&[i64]],
+) -> Result<Answer, Memory>
+    ensures header { IfOk result (λ a. a.header ≡ query.now.header) }
+    ensures rows { IfOk result (λ a. a.rows ≡ map (spec.shown_line ranks.now (spec.printed_kinds query.now)) (map (λ l. l.now) lines.now)) }
+{
+    let kinds = printed_kinds(alloc, query)?;
+    let rows = shown_slices(alloc, ranks, kinds.as_slice(), lines)?;
+    let header = copy_header(alloc, &query.header)?;
+    Ok(Answer { header, rows })
+}
