@@ -1,0 +1,11 @@
+pub mod Lists
+pub mod Spelled
+pub mod Places
+pub mod Judged
+pub mod Meeting
+pub mod Progressing
+pub mod Learning
+pub mod Restarting
+pub mod Receiving
+pub mod Starting
+pub mod Arriving

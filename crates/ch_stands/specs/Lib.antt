@@ -1,0 +1,3 @@
+pub mod Packets
+pub mod Parties
+pub mod Team
