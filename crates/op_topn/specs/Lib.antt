@@ -1,0 +1,13 @@
+pub mod Fine
+pub mod Policy
+pub mod Emitted
+pub mod Worked
+pub mod Range
+pub mod Values
+pub mod Run
+pub mod Step
+pub mod History
+pub mod Order
+pub mod Serves
+pub mod Fact
+pub mod Laws
