@@ -1,7 +1,7 @@
 ghost use Rattle.std.specs.Prelude.{◌≡◌, ◌≤◌, ◌<◌, ◌^◌, List, [], ◌∷◌, length, IfOk, OnOk};
 ghost use Rattle.op_moves.specs.Built.{HasMade};
 ghost use Rattle.op_moves.specs.Moves.{Compute, Reach};
-ghost use Rattle.op_cache.specs.Emitted.{column, columns, gate_op};
+ghost use Rattle.op_cache.specs.Emitted.{column, columns, gate_after, gate_op};
 
 use crate::operands::{put_each, words_from, words_of};
 use ch_cells::{Listed, Memory};
@@ -103,4 +103,18 @@ pub fn emit_columns(
         base = base + keys + 3;
     }
     Ok(())
+}
+
+/// The word of the gate after the last column, for keys of so many words.
+pub fn gate_after(keys: u32, cols: u32, base: u32, gate: u32) -> u32
+    requires keys { keys ≤ 16 }
+    requires cols { cols ≤ 16 }
+    requires base { base < 2 ^ 16 }
+    ensures { result ≡ gate_after keys cols base gate }
+{
+    if cols == 0 {
+        gate
+    } else {
+        base + (keys + 3) * (cols - 1) + keys + 2
+    }
 }

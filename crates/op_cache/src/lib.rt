@@ -7,5 +7,5 @@ mod operands;
 #[cfg(test)]
 mod tests;
 
-pub use columns::{Columns, emit_columns};
+pub use columns::{Columns, emit_columns, gate_after};
 pub use operands::{put_each, words_from, words_of};

@@ -1,9 +1,10 @@
 -- The words that consecutive moves assign, as a list of values.
 use Rattle.std.proofs.Common.{◌≡◌, ◌≢◌, ◌<◌, ◌≤◌, ℕ, zero, suc, ◌+◌, Bool, true, false, List, [], ◌∷◌, ◌++◌, ℤ, pos, inl, inr, refl, sym, ◌∙◌, ap, ap₂, arith, Some, length, get_or, map}
-use Rattle.std.specs.Prelude.{◌-◌, ◌==◌, not, ◌||◌, int_le}
+use Rattle.std.specs.Prelude.{◌-◌, ◌==◌, not, ◌||◌, ◌&&◌, int_le, nat_le, nat_lt}
+use Rattle.std.specs.List.{list_all}
 use Rattle.std.specs.Option.{option_and_then}
 use Rattle.std.specs.Ordering.{int_eq}
-use Rattle.std.proofs.lemmas.Bool.{cases_eq, eq-eqb, ne_eqb, lt-ltb}
+use Rattle.std.proofs.lemmas.Bool.{and_parts, leb-true, ltb-true, cases_eq, eq-eqb, ne_eqb, lt-ltb}
 use Rattle.std.proofs.lemmas.Int.{ints}
 use Rattle.ch_cover.specs.Rows.{Row}
 use Rattle.ch_ir.specs.declared.program.Operand.TheVariants.{Word}
@@ -61,6 +62,17 @@ given_at width row w h = rw (lt-ltb w width h) refl
 abbrev pub ArePlaces : ℕ → List ℕ → Type 0
 ArePlaces width [] = Unit {0}
 ArePlaces width (p ∷ places) = ((2 ≤ p) × (p < width)) × ArePlaces width places
+
+-- the same as a test
+abbrev pub is_place : ℕ → ℕ → Bool
+is_place width p = nat_le 2 p && nat_lt p width
+
+pub places_are : (width : ℕ) (places : List ℕ) → list_all (is_place width) places ≡ true → ArePlaces width places
+places_are width [] h = tt
+places_are width (p ∷ places) h =
+    let first = and_parts (is_place width p) (list_all (is_place width) places) h in
+    let both = and_parts (nat_le 2 p) (nat_lt p width) first.0 in
+    ((leb-true 2 p both.0, ltb-true p width both.1), places_are width places first.1)
 
 pub word_given : (x : ℕ × Row) (p : ℕ) → 2 ≤ p → get_or (row_words x) p (pos 0) ≡ word_at x.1 p
 word_given x zero h = absurd (omega arith)

@@ -1,10 +1,10 @@
-ghost use Rattle.std.specs.Prelude.{◌≡◌, ◌+◌, ◌<◌, ◌^◌, List, [], ◌∷◌, OnOk, IfOk};
+ghost use Rattle.std.specs.Prelude.{◌≡◌, ◌+◌, ◌<◌, ◌^◌, List, [], ◌∷◌, replicate, OnOk, IfOk};
 ghost use Rattle.op_moves.specs.Moves.{Move, Compute, Reach, staged};
 ghost use Rattle.op_moves.specs.Built.{stages_after, HasMade};
 ghost use Rattle.op_moves.specs.Sheets.{cell_access};
 
 use ch_cells::{Listed, Memory};
-use ch_ir::{Access, Op, Operand, Stage, Test, Update};
+use ch_ir::{Access, Array, Op, Operand, Stage, Test, Update};
 use std::alloc::Global;
 
 /// A program as it grows: the stages that have ended, and the ops of the next one.
@@ -80,4 +80,21 @@ pub fn always(
         old,
         hit: old + 1,
     })
+}
+
+/// So many arrays of so many entries and cells.
+pub fn arrays_alike(
+    alloc: Global,
+    count: u32,
+    entries: u32,
+    cells: u32,
+) -> Result<Listed<Array>, Memory>
+    ensures { IfOk result (λ arrays. arrays ≡ replicate count (record { entries = entries; cells = cells })) }
+{
+    let mut arrays = Listed::new(alloc);
+    for index in 0..count {
+        let _ = index;
+        arrays.push(Array { entries, cells })?;
+    }
+    Ok(arrays)
 }

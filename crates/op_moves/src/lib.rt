@@ -7,5 +7,5 @@ mod laws;
 #[cfg(test)]
 mod tests;
 
-pub use builder::{Builder, always};
+pub use builder::{Builder, always, arrays_alike};
 pub use laws::{in_order, runs, steps};
