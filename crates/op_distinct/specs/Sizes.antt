@@ -1,0 +1,21 @@
+-- The sizes of a Distinct and the places of its key.
+use Rattle.std.specs.Prelude.{◌≡◌, ◌≤◌, ℕ, true, List, length}
+use Rattle.std.specs.List.{list_all}
+use Rattle.op_moves.specs.Values.{is_place}
+
+-- width       how many words a row is given by, with its pass, side and bit
+-- rows, cols  how many hash rows there are, and how many keys each lists at most
+-- key         the places of the key's words
+pub record Sizes : Type 0 where
+  pub width : ℕ
+  pub rows : ℕ
+  pub cols : ℕ
+  pub key : List ℕ
+
+pub record IsFine (s : Sizes) : Type 0 where
+  pub wide : 3 ≤ s.width
+  pub narrow : s.width ≤ 20
+  pub places : list_all (is_place s.width) s.key ≡ true
+  pub few : length s.key ≤ 16
+  pub some_rows : 1 ≤ s.rows
+  pub few_cols : s.cols ≤ 16

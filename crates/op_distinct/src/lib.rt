@@ -1,0 +1,11 @@
+//! The operator of DISTINCT: of each hash row the latest used keys.
+#![tactic(auto)]
+
+mod distinct;
+mod emit;
+mod laws;
+#[cfg(test)]
+mod tests;
+
+pub use distinct::Distinct;
+pub use laws::worked_verdicts;
