@@ -1,0 +1,4 @@
+pub mod FirstLaws
+pub mod Beaten
+pub mod TopLaws
+pub mod SkylineLaws

@@ -1,0 +1,4 @@
+pub mod Firsts
+pub mod Front
+pub mod Top
+pub mod Skyline
