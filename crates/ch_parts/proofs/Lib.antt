@@ -1,0 +1,5 @@
+pub mod Listing
+pub mod Reading
+pub mod Spelling
+pub mod Tabled
+pub mod Permuting
