@@ -1,0 +1,139 @@
+ghost use Rattle.std.specs.Prelude.{◌≡◌, ℕ, true, ◌<◌, ◌^◌, ◌++◌, ◌∷◌, [], List, IfOk, OnOk, OnErr, length};
+ghost use Rattle.ch_cover.specs.Rows.{Row};
+ghost use Rattle.ch_pred.specs.Sound.{IsSound};
+ghost use Rattle.ch_pred.specs.declared.bound.Bound.{Bound as Query};
+ghost use Rattle.ch_fold_lines.specs.Rows.{RowFits, answer_read};
+ghost use Rattle.ch_finish.specs.Fold.{StandsFor, is_folded, kept_size};
+
+use ch_cells::{Answer, Memory};
+use ch_fold_lines::{DistinctFold, FilterFold};
+use ch_fold_orders::{SkylineFold, TopFold};
+use ch_pred::{Bound, Shape};
+use ch_ranks::Ranks;
+use std::alloc::Global;
+
+/// What is kept of the rows of each kind.
+enum Kept {
+    Filter(FilterFold),
+    Distinct(DistinctFold),
+    Top(TopFold),
+    Skyline(SkylineFold),
+}
+
+impl Drop for Kept {
+    fn drop(self) {
+        match self {
+            Kept::Filter(_) => {}
+            Kept::Distinct(_) => {}
+            Kept::Top(_) => {}
+            Kept::Skyline(_) => {}
+        }
+    }
+}
+
+/// The master's fold: what is kept of the rows that came so far, and not the rows.
+#[derive(Drop)]
+pub struct Fold {
+    kept: Kept,
+}
+
+impl Fold {
+    /// The fold of no rows.
+    pub fn new(alloc: Global, query: &Bound) -> Result<Fold, Memory>
+        requires shape { is_folded query.now.shape ≡ true }
+        ensures { (texts : List (List ℕ)) → IfOk result (λ fold. StandsFor texts query.now fold []) }
+    {
+        match &query.shape {
+            Shape::Filter => {
+                let fold = FilterFold::new(alloc, query)?;
+                Ok(Fold {
+                    kept: Kept::Filter(fold),
+                })
+            }
+            Shape::Distinct => {
+                let fold = DistinctFold::new(alloc, query)?;
+                Ok(Fold {
+                    kept: Kept::Distinct(fold),
+                })
+            }
+            Shape::Top {
+                by,
+                descending,
+                limit,
+            } => {
+                let fold = TopFold::new(alloc, query, *by, *descending, *limit)?;
+                Ok(Fold {
+                    kept: Kept::Top(fold),
+                })
+            }
+            Shape::Skyline { dims } => {
+                let fold = SkylineFold::new(alloc, query, dims)?;
+                Ok(Fold {
+                    kept: Kept::Skyline(fold),
+                })
+            }
+            Shape::Group {
+                keys: _,
+                max: _,
+                value: _,
+            } => Err(Memory),
+            Shape::Having {
+                keys: _,
+                sum: _,
+                above: _,
+            } => Err(Memory),
+            Shape::Join { left: _, right: _ } => Err(Memory),
+            Shape::Semi { key: _, inner: _ } => Err(Memory),
+        }
+    }
+
+    /// Takes a row in. The later calls need the same query and ranks.
+    pub fn add(
+        &mut self,
+        query: &Bound,
+        ranks: &Ranks,
+        side: u8,
+        words: &[i64],
+    ) -> Result<(), Memory>
+        requires sound { IsSound query.now }
+        requires fits { RowFits ranks.now query.now side words.now }
+        requires room { (rows : List Row) × StandsFor ranks.now query.now self.old rows × (length rows < 2 ^ 63) }
+        ensures ok { (rows : List Row) (r : Row) → StandsFor ranks.now query.now self.old rows → r.side ≡ side → r.words ≡ words.now
+            → OnOk result (StandsFor ranks.now query.now self.new (rows ++ r ∷ [])) }
+        ensures err { OnErr result (self.new ≡ self.old) }
+    {
+        match &mut self.kept {
+            Kept::Filter(fold) => fold.add(query, ranks, side, words),
+            Kept::Distinct(fold) => fold.add(query, ranks, side, words),
+            Kept::Top(fold) => fold.add(query, ranks, side, words),
+            Kept::Skyline(fold) => fold.add(query, ranks, side, words),
+        }
+    }
+
+    /// How many entries are kept.
+    pub fn size(&self) -> u64
+        ensures { (texts : List (List ℕ)) (b : Query) (rows : List Row) → StandsFor texts b self.now rows → result ≡ kept_size texts b b.shape rows }
+    {
+        match &self.kept {
+            Kept::Filter(fold) => fold.size() as u64,
+            Kept::Distinct(fold) => fold.size() as u64,
+            Kept::Top(fold) => fold.size() as u64,
+            Kept::Skyline(fold) => fold.size() as u64,
+        }
+    }
+
+    /// The answer over the rows that came so far. The fold stays as it is.
+    pub fn answer(&self, alloc: Global, query: &Bound, ranks: &Ranks) -> Result<Answer, Memory>
+        requires sound { IsSound query.now }
+        requires stands { (rows : List Row) × StandsFor ranks.now query.now self.now rows }
+        ensures header { IfOk result (λ a. a.header ≡ query.now.header) }
+        ensures rows { (rows : List Row) → StandsFor ranks.now query.now self.now rows → IfOk result (λ a. a.rows ≡ answer_read ranks.now query.now rows) }
+    {
+        match &self.kept {
+            Kept::Filter(fold) => fold.answer(alloc, query, ranks),
+            Kept::Distinct(fold) => fold.answer(alloc, query, ranks),
+            Kept::Top(fold) => fold.answer(alloc, query, ranks),
+            Kept::Skyline(fold) => fold.answer(alloc, query, ranks),
+        }
+    }
+}
