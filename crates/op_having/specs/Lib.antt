@@ -1,0 +1,11 @@
+pub mod Fine
+pub mod Places
+pub mod Policy
+pub mod Program
+pub mod Run
+pub mod Agrees
+pub mod Order
+pub mod Serves
+pub mod Small
+pub mod Laws
+pub mod Worked
