@@ -11,11 +11,11 @@ use Rattle.ch_bind.specs.declared.shape.TableShape.{TableShape}
 use Rattle.ch_bind.specs.declared.error.BindError.{BindError}
 use Rattle.ch_bind.specs.declared.error.BindError.TheVariants as error
 
-behind : (a b : Option BindError) → option_or a b ≡ None → b ≡ None
+pub behind : {X : Type 0} (a b : Option X) → option_or a b ≡ None → b ≡ None
 behind None b h = h
 behind (Some e) b h = cc
 
-before : (a b : Option BindError) → option_or a b ≡ None → a ≡ None
+pub before : {X : Type 0} (a b : Option X) → option_or a b ≡ None → a ≡ None
 before None b h = refl
 before (Some e) b h = cc
 

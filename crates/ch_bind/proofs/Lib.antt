@@ -4,6 +4,10 @@ pub mod Filtering
 pub mod Founding
 pub mod Itemed
 pub mod Marking
+pub mod Members
 pub mod Naming
+pub mod Printable
 pub mod Printing
 pub mod Searches
+pub mod Sounding
+pub mod Standing

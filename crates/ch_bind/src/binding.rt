@@ -1,4 +1,5 @@
-ghost use Rattle.std.specs.Prelude.{◌≡◌, ◌<◌, ◌^◌, ◌⊎◌, length, unwrap_or, IfOk, IfErr, None, Some};
+ghost use Rattle.std.specs.Prelude.{◌≡◌, ◌<◌, ◌≤◌, ◌^◌, ◌⊎◌, All, length, unwrap_or, IfOk, IfErr, None, Some};
+ghost use Rattle.ch_pred.specs.Sound.{IsSound};
 ghost use Rattle.ch_sql_grammar.specs.Tree.{select_of};
 ghost use Rattle.ch_bind.specs.Binding as spec;
 ghost use Rattle.ch_bind.specs.Binding.{bound_in, bound_of, plain_bound};
@@ -234,6 +235,8 @@ pub fn bind(alloc: Global, query: &Query, shapes: &Listed<TableShape>) -> Result
     requires query { IsParsed (select_of query.now) }
     // No check found anything, and each name is replaced by its one column.
     ensures bound { IfOk result (λ b. (bind_refusal (select_of query.now) shapes.now ≡ None) × (plain_bound b ≡ bound_of (select_of query.now) shapes.now)) }
+    ensures sound { IfOk result IsSound }
+    ensures few { IfOk result (λ b. All (λ columns. length columns ≤ 16) b.carried) }
     // The first check that finds something is told, unless memory runs out.
     ensures refused { IfErr result (λ e. (e ≡ error.Memory) ⊎ (bind_refusal (select_of query.now) shapes.now ≡ Some e)) }
 {

@@ -38,8 +38,24 @@ pub(crate) fn shop_queries_are_bound()
       filter = bound.And (bound.plains (bound.Compare (left 2) cmp.Ne (arg.Value (literal.Text (codes "ES"))) ∷ bound.Compare (left 3) cmp.Ge (arg.Value (literal.Number (pos 1200))) ∷ []));
       shape = shape.Filter;
     } }
-    ensures distinct { (bound_of countries shapes).shape ≡ shape.Distinct }
-    ensures top { (bound_of dearest shapes).shape ≡ shape.Top (left 3) true 2 }
+    ensures distinct { bound_of countries shapes ≡ record {
+      tables = 1 ∷ [];
+      carried = (2 ∷ []) ∷ [];
+      kinds = (kind.Text ∷ []) ∷ [];
+      header = codes "country" ∷ [];
+      printed = printed.Column (left 2) ∷ [];
+      filter = bound.Truth;
+      shape = shape.Distinct;
+    } }
+    ensures top { bound_of dearest shapes ≡ record {
+      tables = 1 ∷ [];
+      carried = (0 ∷ 3 ∷ []) ∷ [];
+      kinds = (kind.Number ∷ kind.Number ∷ []) ∷ [];
+      header = codes "order_id" ∷ codes "cents" ∷ [];
+      printed = printed.Column (left 0) ∷ printed.Column (left 3) ∷ [];
+      filter = bound.Truth;
+      shape = shape.Top (left 3) true 2;
+    } }
     ensures group { bound_of latest shapes ≡ record {
       tables = 1 ∷ [];
       carried = (1 ∷ 4 ∷ []) ∷ [];
@@ -49,7 +65,15 @@ pub(crate) fn shop_queries_are_bound()
       filter = bound.Truth;
       shape = shape.Group (left 1 ∷ []) true (left 4);
     } }
-    ensures having { (bound_of spenders shapes).shape ≡ shape.Having (left 1 ∷ []) (Some (left 3)) (pos 3000) }
+    ensures having { bound_of spenders shapes ≡ record {
+      tables = 1 ∷ [];
+      carried = (1 ∷ 3 ∷ []) ∷ [];
+      kinds = (kind.Text ∷ kind.Number ∷ []) ∷ [];
+      header = codes "customer" ∷ [];
+      printed = printed.Column (left 1) ∷ [];
+      filter = bound.Truth;
+      shape = shape.Having (left 1 ∷ []) (Some (left 3)) (pos 3000);
+    } }
     ensures join { bound_of cities shapes ≡ record {
       tables = 1 ∷ 0 ∷ [];
       carried = (0 ∷ 1 ∷ 3 ∷ []) ∷ (0 ∷ 1 ∷ []) ∷ [];
@@ -59,7 +83,15 @@ pub(crate) fn shop_queries_are_bound()
       filter = bound.Compare (left 3) cmp.Lt (arg.Value (literal.Number (pos 2000)));
       shape = shape.Join (left 1) (right 0);
     } }
-    ensures skyline { (bound_of dear_or_early shapes).shape ≡ shape.Skyline (record { col = left 3; max = true } ∷ record { col = left 4; max = false } ∷ []) }
+    ensures skyline { bound_of dear_or_early shapes ≡ record {
+      tables = 1 ∷ [];
+      carried = (0 ∷ 3 ∷ 4 ∷ []) ∷ [];
+      kinds = (kind.Number ∷ kind.Number ∷ kind.Number ∷ []) ∷ [];
+      header = codes "order_id" ∷ codes "cents" ∷ codes "time" ∷ [];
+      printed = printed.Column (left 0) ∷ printed.Column (left 3) ∷ printed.Column (left 4) ∷ [];
+      filter = bound.Truth;
+      shape = shape.Skyline (record { col = left 3; max = true } ∷ record { col = left 4; max = false } ∷ []);
+    } }
     ensures semi { bound_of known shapes ≡ record {
       tables = 1 ∷ 0 ∷ [];
       carried = (0 ∷ 1 ∷ 2 ∷ 3 ∷ 4 ∷ []) ∷ (0 ∷ []) ∷ [];
