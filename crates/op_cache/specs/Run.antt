@@ -19,7 +19,7 @@ use Rattle.op_moves.specs.Values.{put_all_below, put_all_at, put_all_push, put_s
 use Rattle.op_cache.specs.Emitted.{column, gate_op, columns, gate_after, words_from, put_each}
 use Rattle.op_cache.specs.Lists.{first_of, rest_of, entry_of, entry_long, encoded, encoded_same, encoded_made, changed, unchanged, is_first, made, made_shut, still, IsFormed, AreFormed, first_formed, rest_formed}
 
-same_is : (xs ys : List ℤ) → same_words xs ys ≡ is_eq (slice_cmp int_cmp xs ys)
+pub same_is : (xs ys : List ℤ) → same_words xs ys ≡ is_eq (slice_cmp int_cmp xs ys)
 same_is xs ys = elim (cases_Bool (is_eq (slice_cmp int_cmp xs ys))) [
   | inl t ↦ ap (same_words xs) (sym (eq_exact (slice_cmp int_cmp) (lists_exact int_cmp ints_exact) xs ys t)) ∙ (itself xs ∙ sym t)
   | inr f ↦ false_from_ne_true (same_words xs ys) (λ h. cc (f, ap (λ (z : List ℤ). is_eq (slice_cmp int_cmp xs z)) (sym (alike xs ys h)) ∙ eq_itself (slice_cmp int_cmp) (lists_exact int_cmp ints_exact) xs)) ∙ sym f

@@ -1,0 +1,15 @@
+pub mod Sizes
+pub mod Policy
+pub mod Program
+pub mod Range
+pub mod Serving
+pub mod Lists
+pub mod Encoding
+pub mod Column
+pub mod Run
+pub mod Agrees
+pub mod Order
+pub mod Fact
+pub mod Laws
+pub mod Shown
+pub mod Worked
