@@ -1,0 +1,11 @@
+//! JOIN: the operator that keeps the rows whose key the other table may have.
+#![tactic(auto)]
+
+mod emitting;
+mod join;
+mod laws;
+#[cfg(test)]
+mod tests;
+
+pub use join::JoinOp;
+pub use laws::worked;
