@@ -3,3 +3,5 @@ pub mod Holding
 pub mod KindLaws
 pub mod WorkedNeeds
 pub mod Ranged
+pub mod Placed
+pub mod KindPlans

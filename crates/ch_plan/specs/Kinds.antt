@@ -1,10 +1,12 @@
 -- The operators of plans, by cases on the kind: policy, program, needs, and what a plan of a query is.
-use Rattle.std.specs.Prelude.{◌≡◌, ℕ, Bool, List, None}
+use Rattle.std.specs.Prelude.{◌≡◌, ◌≤◌, ℕ, Bool, true, false, List, None, length}
+use Rattle.ch_lists.specs.Members.{Each}
 use Rattle.ch_cover.specs.Rows.{Policy, Row}
 use Rattle.ch_cover.specs.Cover.{CoversOnce, CoversTwice}
 use Rattle.ch_ir.specs.declared.program.Program.{Program}
 use Rattle.ch_ir.specs.declared.profile.Profile.{Profile}
 use Rattle.ch_ir.specs.Machine.{cleared}
+use Rattle.ch_pred.specs.Sound.{IsCarried}
 use Rattle.ch_pred.specs.declared.bound.Bound.{Bound}
 use Rattle.ch_pred.specs.declared.bound.Shape.{Shape}
 use Rattle.ch_pred.specs.declared.bound.Shape.TheVariants as shape
@@ -15,34 +17,69 @@ use Rattle.ch_words.specs.Words.{Reading, asked_of_words}
 use Rattle.ch_prune.specs.declared.operator.Need.{Need}
 use Rattle.ch_prune.specs.Filtering.{FilterServes, filter_need, filter_program}
 use Rattle.ch_prune.specs.Sent.{is_sent}
+use Rattle.op_topn.specs.Emitted.{top_program}
+use Rattle.op_topn.specs.Order.{top_need}
+use Rattle.op_topn.specs.Policy.{top_policy}
+use Rattle.op_topn.specs.Serves.{TopServes}
+use Rattle.op_skyline.specs.Emitted.{skyline_program}
+use Rattle.op_skyline.specs.Order.{skyline_need}
+use Rattle.op_skyline.specs.Policy.{skyline_policy}
+use Rattle.op_skyline.specs.Serves.{SkylineServes}
 use Rattle.ch_plan.specs.declared.kind.PlanKind.{PlanKind}
 use Rattle.ch_plan.specs.declared.kind.PlanKind.TheVariants as kind
 use Rattle.ch_plan.specs.Needs.{need_of, plan_refusal}
 
 abbrev pub kind_policy : PlanKind → Policy
 kind_policy (kind.Filter o) = by_bit
+kind_policy (kind.Top o) = top_policy o.sizes
+kind_policy (kind.Skyline o) = skyline_policy o.sizes
 
 abbrev pub kind_program : PlanKind → Program
 kind_program (kind.Filter o) = filter_program o.width
+kind_program (kind.Top o) = top_program o.sizes
+kind_program (kind.Skyline o) = skyline_program o.sizes
 
 abbrev pub kind_needs : PlanKind → Need
 kind_needs (kind.Filter o) = filter_need o.width
+kind_needs (kind.Top o) = top_need o.sizes
+kind_needs (kind.Skyline o) = skyline_need o.sizes
 
 -- the number of ops of a stage that it was made with
 abbrev pub kind_most : PlanKind → ℕ
 kind_most (kind.Filter o) = o.ops
+kind_most (kind.Top o) = o.ops
+kind_most (kind.Skyline o) = o.ops
 
 -- its number of passes
 abbrev pub kind_times : PlanKind → ℕ
 kind_times (kind.Filter o) = 1
+kind_times (kind.Top o) = 1
+kind_times (kind.Skyline o) = 1
 
 -- the queries that it serves
 abbrev pub kind_serves : PlanKind → Reading → Bound → Gate → Type 0
 kind_serves (kind.Filter o) d b gate = FilterServes d b gate
+kind_serves (kind.Top o) d b gate = TopServes o.sizes d b gate
+kind_serves (kind.Skyline o) d b gate = SkylineServes o.sizes d b gate
 
 -- the operator is of the query's own kind
-abbrev pub IsOwnKind : PlanKind → Shape → Type 0
-IsOwnKind (kind.Filter o) s = s ≡ shape.Filter
+abbrev pub is_own_kind : PlanKind → Shape → Bool
+is_own_kind (kind.Filter o) shape.Filter = true
+is_own_kind (kind.Top o) (shape.Top by descending limit) = true
+is_own_kind (kind.Skyline o) (shape.Skyline dims) = true
+is_own_kind _ _ = false
+
+-- what the operator of a kind asks of a query: the columns that it reads are carried, and its numbers are in their ranges;
+-- the other kinds have no operator
+abbrev pub IsPlannable : Bound → Shape → Type 0
+IsPlannable b shape.Filter = Unit {0}
+IsPlannable b shape.Distinct = ⊥
+IsPlannable b (shape.Top by descending limit) = IsCarried b by.side by.at × (1 ≤ limit)
+IsPlannable b (shape.Group keys max value) = ⊥
+IsPlannable b (shape.Having keys sum above) = ⊥
+IsPlannable b (shape.Join left right) = ⊥
+IsPlannable b (shape.Skyline dims) = Each (λ k. IsCarried b k.col.side k.col.at) dims × (1 ≤ length dims) × (length dims ≤ 4)
+IsPlannable b (shape.Semi key inner) = ⊥
 
 -- the law of a policy of so many passes
 pub record Covers {A : Type 0} (passes : ℕ) (is_row : Row → Bool) (prunes : Policy) (answer : List Row → A) : Type 0 where
@@ -58,7 +95,7 @@ pub record Holds (k : PlanKind) (d : Reading) (b : Bound) (gate : Gate) : Type 0
 -- An operator that a query may be planned by: it is of the query's kind, its needs are the query's, within the profile, and
 -- it serves the query wherever the rows' bits fit it
 pub record IsPlanOf (k : PlanKind) (b : Bound) (profile : Profile) : Type 0 where
-  pub own : IsOwnKind k b.shape
+  pub own : is_own_kind k b.shape ≡ true
   pub needs : kind_needs k ≡ need_of b profile
   pub most : kind_most k ≡ profile.ops
   pub within : plan_refusal (need_of b profile) profile ≡ None

@@ -3,8 +3,10 @@
 
 mod error;
 mod kind;
+mod kinds;
 mod laws;
 mod needs;
+mod places;
 mod planned;
 #[cfg(test)]
 mod tests;

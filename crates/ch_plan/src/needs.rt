@@ -1,5 +1,5 @@
-ghost use Rattle.std.specs.Prelude.{◌≡◌, ◌≤◌};
-ghost use Rattle.ch_pred.specs.declared.bound.Shape.TheVariants as shape;
+ghost use Rattle.std.specs.Prelude.{◌≡◌, ◌≤◌, ◌<◌, ◌+◌, ◌*◌, ◌^◌};
+ghost use Rattle.ch_plan.specs.Kinds.{IsPlannable};
 ghost use Rattle.ch_plan.specs.Needs.{exceeds, greatest_length, need_of, plan_refusal};
 
 use crate::error::PlanError;
@@ -8,7 +8,7 @@ use ch_ir::{LimitName, Profile};
 use ch_pred::{Bound, Shape};
 use ch_prune::Need;
 
-fn greatest_length(lists: &[Listed<u32>]) -> usize
+pub(crate) fn greatest_length(lists: &[Listed<u32>]) -> usize
     ensures { result ≡ greatest_length lists.now }
 {
     let mut greatest = 0;
@@ -18,21 +18,40 @@ fn greatest_length(lists: &[Listed<u32>]) -> usize
     greatest
 }
 
+/// The need of an operator of so many stages, whose greatest array has so many cells.
+fn need_with(carried: u64, cells: u64, keys: u64, stages: u64) -> Need
+    requires carried { carried < 2 ^ 32 }
+    requires keys { keys ≤ 16 }
+    requires stages { stages < 2 ^ 33 }
+    ensures { result ≡ record { width = carried + 3; cells = cells; words = carried + 3 + 32 + stages * (keys + 32); stages = 2 + stages } }
+{
+    Need {
+        width: carried + 3,
+        cells,
+        words: carried + 3 + 32 + stages * (keys + 32),
+        stages: 2 + stages,
+    }
+}
+
 /// What the plan of a query needs of each limit.
 pub(crate) fn need_of(bound: &Bound, profile: &Profile) -> Need
-    requires filter { bound.now.shape ≡ shape.Filter }
+    requires kind { IsPlannable bound.now bound.now.shape }
     requires few { greatest_length bound.now.carried ≤ 16 }
     ensures { result ≡ need_of bound.now profile.now }
 {
-    let _ = profile;
     let carried = greatest_length(bound.carried.as_slice()) as u64;
-    match bound.shape {
-        Shape::Filter => Need {
-            width: carried + 3,
-            cells: 0,
-            words: carried + 3 + 32,
-            stages: 2,
-        },
+    match &bound.shape {
+        Shape::Filter => need_with(carried, 0, 1, 0),
+        Shape::Top {
+            by: _,
+            descending: _,
+            limit: _,
+        } => need_with(carried, 1, 1, u64::from(profile.top_steps) + 2),
+        Shape::Skyline { dims } => {
+            let dimensions = dims.len() as u64;
+            let points = u64::from(profile.skyline_points);
+            need_with(carried, dimensions + 2, dimensions, points)
+        }
         _ => unreachable!(),
     }
 }

@@ -1,17 +1,17 @@
 ghost use Rattle.std.specs.Prelude.{◌≡◌, ◌<◌, ◌≤◌, ◌-◌, ◌^◌, Some, None, length, IfErr, IfOk};
 ghost use Rattle.ch_ir.specs.Measure.{first_refusal, most_ops};
-ghost use Rattle.ch_pred.specs.declared.bound.Shape.TheVariants as shape;
 ghost use Rattle.ch_plan.specs.Needs.{greatest_length, need_of, plan_refusal};
 ghost use Rattle.ch_plan.specs.Ranged.{IsRanged};
-ghost use Rattle.ch_plan.specs.Kinds.{IsPlanOf, kind_program, kind_times};
+ghost use Rattle.ch_plan.specs.Kinds.{IsPlanOf, IsPlannable, kind_program, kind_times};
 
 use crate::error::PlanError;
 use crate::kind::PlanKind;
+use crate::kinds::planned;
 use crate::needs::{need_of, plan_refusal};
 use ch_cells::Memory;
 use ch_ir::{Profile, Program, Refused};
 use ch_pred::Bound;
-use ch_prune::{Filter, Front, Operator};
+use ch_prune::Operator;
 use ch_verify::{Checked, verify};
 use std::alloc::Global;
 
@@ -40,7 +40,7 @@ fn accept(alloc: Global, program: Program, profile: &Profile) -> Result<Checked,
 }
 
 /// The checked program of an operator whose needs are within the limits of the profile.
-fn checked_program<O: Operator>(
+pub(crate) fn checked_program<O: Operator>(
     alloc: Global,
     operator: &O,
     profile: &Profile,
@@ -54,10 +54,10 @@ fn checked_program<O: Operator>(
     accept(alloc, program, profile)
 }
 
-/// Plans a query, or answers the first limit that its need exceeds. Today it takes a query that is only a filter, since no
-/// other kind has an operator.
+/// Plans a query, or answers the first limit that its need exceeds. Today it takes a filter, ORDER BY with LIMIT and SKYLINE
+/// OF, since no other kind has an operator.
 pub fn plan(alloc: Global, bound: &Bound, profile: &Profile) -> Result<Planned, PlanError>
-    requires filter { bound.now.shape ≡ shape.Filter }
+    requires kind { IsPlannable bound.now bound.now.shape }
     requires few { greatest_length bound.now.carried ≤ 16 }
     requires ranged { IsRanged profile.now }
     ensures planned { IfOk result (λ p. IsPlanOf p.kind bound.now profile.now) }
@@ -68,12 +68,5 @@ pub fn plan(alloc: Global, bound: &Bound, profile: &Profile) -> Result<Planned, 
     if let Some(refused) = plan_refusal(need, profile) {
         return Err(refused);
     }
-    let filter = Filter::new(Front::bit(), profile.ops, need.width as u32);
-    let passes = filter.passes();
-    let checked = checked_program(alloc, &filter, profile)?;
-    Ok(Planned {
-        kind: PlanKind::Filter(filter),
-        checked,
-        passes,
-    })
+    Ok(planned(alloc, bound, profile)?)
 }

@@ -1,10 +1,12 @@
-ghost use Rattle.std.specs.Prelude.{◌≡◌, ◌<◌, [], ◌∷◌, IfOk, length};
+ghost use Rattle.std.specs.Prelude.{◌≡◌, ◌<◌, ◌≤◌, [], ◌∷◌, true, false, IfOk, length};
+ghost use Rattle.ch_plan.specs.Kinds.{IsPlannable};
+ghost use Rattle.ch_plan.specs.Needs.{greatest_length};
 ghost use Rattle.ch_pred.specs.declared.bound.Shape.TheVariants as shape;
 
 use crate::{PlanError, plan};
 use ch_cells::{Bytes, Kind, Listed, Memory};
 use ch_ir::{LimitName, read_profile};
-use ch_pred::{Arg, Bound, BoundPred, Cmp, Col, Literal, Printed, Shape};
+use ch_pred::{Arg, Bound, BoundPred, Cmp, Col, Dim, Literal, Printed, Shape};
 use std::alloc::Global;
 use std::test::Fail;
 
@@ -41,34 +43,73 @@ fn query(alloc: Global) -> Result<Bound, Memory>
     })
 }
 
-/// How the query is planned by a profile: its number of passes and stages, or why it is refused.
+/// SELECT a FROM t ORDER BY a DESC LIMIT 2
+fn top_query(alloc: Global) -> Result<Bound, Memory>
+    ensures { IfOk result (λ b. (b.shape ≡ shape.Top (record { side = 0; at = 0 }) true 2) × (b.carried ≡ (0 ∷ []) ∷ [])) }
+{
+    let mut query = query(alloc)?;
+    query.shape = Shape::Top {
+        by: A,
+        descending: true,
+        limit: 2,
+    };
+    Ok(query)
+}
+
+/// SELECT a FROM t SKYLINE OF a MIN
+fn skyline_query(alloc: Global) -> Result<Bound, Memory>
+    ensures { IfOk result (λ b. (b.shape ≡ shape.Skyline (record { col = record { side = 0; at = 0 }; max = false } ∷ [])) × (b.carried ≡ (0 ∷ []) ∷ [])) }
+{
+    let mut query = query(alloc)?;
+    let dims = one(alloc, Dim { col: A, max: false })?;
+    query.shape = Shape::Skyline { dims };
+    Ok(query)
+}
+
+/// How a query is planned by a profile: its number of passes, or why it is refused.
 #[tactic(auto, using(crate::proofs::Ranged::read_is_ranged))]
-fn planned(alloc: Global, profile: &[u8]) -> Result<Result<u8, PlanError>, Fail>
-    requires { length profile.now < 100 }
+fn planned(alloc: Global, query: &Bound, profile: &[u8]) -> Result<Result<u8, PlanError>, Fail>
+    requires text { length profile.now < 100 }
+    requires kind { IsPlannable query.now query.now.shape }
+    requires few { greatest_length query.now.carried ≤ 16 }
 {
     let profile = read_profile(profile)?;
-    let query = query(alloc)?;
-    match plan(alloc, &query, &profile) {
+    match plan(alloc, query, &profile) {
         Ok(planned) => Ok(Ok(planned.passes)),
         Err(error) => Ok(Err(error)),
     }
 }
 
+fn refused(which: LimitName, need: u64, have: u64) -> PlanError {
+    PlanError::Limit { which, need, have }
+}
+
 #[test]
 fn filter_is_planned_or_refused(rt: HostRuntime) -> Result<(), Fail> {
-    assert!(rt; planned(rt.alloc(), b"")? == Ok(1));
-    assert!(rt; planned(rt.alloc(), b"stages 2\nwidth 4")? == Ok(1));
-    let stages = PlanError::Limit {
-        which: LimitName::Stages,
-        need: 2,
-        have: 1,
-    };
-    assert!(rt; planned(rt.alloc(), b"stages 1")? == Err(stages));
-    let width = PlanError::Limit {
-        which: LimitName::Width,
-        need: 4,
-        have: 2,
-    };
-    assert!(rt; planned(rt.alloc(), b"width 2\nstages 1")? == Err(width));
+    let query = query(rt.alloc())?;
+    assert!(rt; planned(rt.alloc(), &query, b"")? == Ok(1));
+    assert!(rt; planned(rt.alloc(), &query, b"stages 2\nwidth 4")? == Ok(1));
+    let stages = refused(LimitName::Stages, 2, 1);
+    assert!(rt; planned(rt.alloc(), &query, b"stages 1")? == Err(stages));
+    let width = refused(LimitName::Width, 4, 2);
+    assert!(rt; planned(rt.alloc(), &query, b"width 2\nstages 1")? == Err(width));
+    Ok(())
+}
+
+#[test]
+fn top_is_planned_or_refused(rt: HostRuntime) -> Result<(), Fail> {
+    let query = top_query(rt.alloc())?;
+    assert!(rt; planned(rt.alloc(), &query, b"top_steps 1\nstages 5")? == Ok(1));
+    let stages = refused(LimitName::Stages, 12, 11);
+    assert!(rt; planned(rt.alloc(), &query, b"stages 11")? == Err(stages));
+    Ok(())
+}
+
+#[test]
+fn skyline_is_planned_or_refused(rt: HostRuntime) -> Result<(), Fail> {
+    let query = skyline_query(rt.alloc())?;
+    assert!(rt; planned(rt.alloc(), &query, b"skyline_points 3\nstages 5")? == Ok(1));
+    let cells = refused(LimitName::Cells, 3, 2);
+    assert!(rt; planned(rt.alloc(), &query, b"cells 2")? == Err(cells));
     Ok(())
 }

@@ -1,5 +1,9 @@
 use Rattle.ch_prune.specs.FilterLaws.{filter_measured, filter_unbroken}
 use Rattle.ch_prune.specs.Filtering.{filter_need, filter_program}
+use Rattle.op_skyline.specs.Emitted.{skyline_program}
+use Rattle.op_skyline.specs.Order.{skyline_measured, skyline_need, skyline_unbroken}
+use Rattle.op_topn.specs.Emitted.{top_program}
+use Rattle.op_topn.specs.Order.{top_measured, top_need, top_unbroken}
 use Rattle.ch_plan.specs.declared.kind.PlanKind.TheVariants as kind
 use Rattle.ch_plan.proofs.Passing.{passes}
 use Rattle.ch_plan.proofs.laws.planned_programs_pass.Goals as goal
@@ -7,3 +11,6 @@ use Rattle.ch_plan.proofs.laws.planned_programs_pass.Goals as goal
 pub returns : goal.returns
 returns _ (kind.Filter o) profile h many =
     passes (filter_program o.width) (filter_need o.width) o.ops profile (filter_unbroken o.width o.least) (filter_measured o.width o.ops o.least o.some) h many
+returns _ (kind.Top o) profile h many = passes (top_program o.sizes) (top_need o.sizes) o.ops profile (top_unbroken o.sizes o.fine) (top_measured o.sizes o.fine o.ops o.many) h many
+returns _ (kind.Skyline o) profile h many =
+    passes (skyline_program o.sizes) (skyline_need o.sizes) o.ops profile (skyline_unbroken o.sizes o.fine) (skyline_measured o.sizes o.fine o.ops o.many) h many

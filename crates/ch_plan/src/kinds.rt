@@ -1,0 +1,117 @@
+ghost use Rattle.std.specs.Prelude.{◌≡◌, ◌≤◌, None, IfOk, length};
+ghost use Rattle.ch_lists.specs.Members.{Each};
+ghost use Rattle.ch_pred.specs.Sound.{IsCarried};
+ghost use Rattle.ch_pred.specs.declared.bound.Shape.TheVariants as shape;
+ghost use Rattle.ch_plan.specs.Needs.{greatest_length, need_of, plan_refusal};
+ghost use Rattle.ch_plan.specs.Ranged.{IsRanged};
+ghost use Rattle.ch_plan.specs.Kinds.{IsPlanOf, IsPlannable};
+
+use crate::kind::PlanKind;
+use crate::places::{directions_of, places_of, width_of};
+use crate::planned::{Planned, checked_program};
+use ch_cells::Memory;
+use ch_ir::Profile;
+use ch_places::place_of;
+use ch_pred::{Bound, Col, Dim, Shape};
+use ch_prune::{Filter, Front, Operator};
+use op_skyline::Skyline;
+use op_topn::TopN;
+use std::alloc::Global;
+
+fn plan_filter(alloc: Global, bound: &Bound, profile: &Profile) -> Result<Planned, Memory>
+    requires kind { bound.now.shape ≡ shape.Filter }
+    requires few { greatest_length bound.now.carried ≤ 16 }
+    requires within { plan_refusal (need_of bound.now profile.now) profile.now ≡ None }
+    requires ranged { IsRanged profile.now }
+    ensures { IfOk result (λ p. IsPlanOf p.kind bound.now profile.now) }
+{
+    let filter = Filter::new(Front::bit(), profile.ops, width_of(bound));
+    let passes = filter.passes();
+    let checked = checked_program(alloc, &filter, profile)?;
+    let kind = PlanKind::Filter(filter);
+    Ok(Planned {
+        kind,
+        checked,
+        passes,
+    })
+}
+
+fn plan_top(
+    alloc: Global,
+    bound: &Bound,
+    profile: &Profile,
+    by: Col,
+    descending: bool,
+    limit: u32,
+) -> Result<Planned, Memory>
+    requires kind { bound.now.shape ≡ shape.Top by descending limit }
+    requires carried { IsCarried bound.now by.side by.at }
+    requires some { 1 ≤ limit }
+    requires few { greatest_length bound.now.carried ≤ 16 }
+    requires within { plan_refusal (need_of bound.now profile.now) profile.now ≡ None }
+    requires ranged { IsRanged profile.now }
+    ensures { IfOk result (λ p. IsPlanOf p.kind bound.now profile.now) }
+{
+    let (width, value) = (width_of(bound), place_of(bound, by));
+    let (ops, steps, gap) = (profile.ops, profile.top_steps, profile.top_gap);
+    let front = Front::bit();
+    let top = TopN::new(front, ops, width, steps, gap, value, descending, limit);
+    let passes = top.passes();
+    let checked = checked_program(alloc, &top, profile)?;
+    let kind = PlanKind::Top(top);
+    Ok(Planned {
+        kind,
+        checked,
+        passes,
+    })
+}
+
+fn plan_skyline(
+    alloc: Global,
+    bound: &Bound,
+    profile: &Profile,
+    dims: &[Dim],
+) -> Result<Planned, Memory>
+    requires kind { bound.now.shape ≡ shape.Skyline dims.now }
+    requires carried { Each (λ k. IsCarried bound.now k.col.side k.col.at) dims.now }
+    requires some { 1 ≤ length dims.now }
+    requires most { length dims.now ≤ 4 }
+    requires few { greatest_length bound.now.carried ≤ 16 }
+    requires within { plan_refusal (need_of bound.now profile.now) profile.now ≡ None }
+    requires ranged { IsRanged profile.now }
+    ensures { IfOk result (λ p. IsPlanOf p.kind bound.now profile.now) }
+{
+    let places = places_of(alloc, bound, dims)?;
+    let max = directions_of(alloc, dims)?;
+    let (ops, width) = (profile.ops, width_of(bound));
+    let points = profile.skyline_points;
+    let skyline = Skyline::new(Front::bit(), ops, width, points, places, max);
+    let passes = skyline.passes();
+    let checked = checked_program(alloc, &skyline, profile)?;
+    let kind = PlanKind::Skyline(skyline);
+    Ok(Planned {
+        kind,
+        checked,
+        passes,
+    })
+}
+
+/// The plan of a query whose need is within the limits.
+pub(crate) fn planned(alloc: Global, bound: &Bound, profile: &Profile) -> Result<Planned, Memory>
+    requires kind { IsPlannable bound.now bound.now.shape }
+    requires few { greatest_length bound.now.carried ≤ 16 }
+    requires within { plan_refusal (need_of bound.now profile.now) profile.now ≡ None }
+    requires ranged { IsRanged profile.now }
+    ensures { IfOk result (λ p. IsPlanOf p.kind bound.now profile.now) }
+{
+    match &bound.shape {
+        Shape::Filter => plan_filter(alloc, bound, profile),
+        Shape::Top {
+            by,
+            descending,
+            limit,
+        } => plan_top(alloc, bound, profile, *by, *descending, *limit),
+        Shape::Skyline { dims } => plan_skyline(alloc, bound, profile, dims.as_slice()),
+        _ => unreachable!(),
+    }
+}
