@@ -10,8 +10,10 @@ use Rattle.ch_pred.specs.declared.bound.Shape.{Shape}
 use Rattle.ch_pred.specs.declared.bound.Shape.TheVariants as shape
 use Rattle.ch_words.specs.Rows.{answer_over, side_seen}
 use Rattle.ch_fold_lines.specs.Rows.{held, held_lines, reading}
-use Rattle.ch_fold_lines.specs.Filter.{StandsForFilter}
+use Rattle.ch_fold_groups.specs.Group.{StandsForGroup}
+use Rattle.ch_fold_groups.specs.Having.{StandsForHaving}
 use Rattle.ch_fold_lines.specs.Distinct.{StandsForDistinct}
+use Rattle.ch_fold_lines.specs.Filter.{StandsForFilter}
 use Rattle.ch_fold_orders.specs.Skyline.{StandsForSkyline}
 use Rattle.ch_fold_orders.specs.Top.{StandsForTop}
 use Rattle.ch_finish.specs.declared.fold.Fold.{Fold}
@@ -23,8 +25,8 @@ abbrev pub is_folded : Shape → Bool
 is_folded shape.Filter = true
 is_folded shape.Distinct = true
 is_folded (shape.Top by descending limit) = true
-is_folded (shape.Group keys max value) = false
-is_folded (shape.Having keys sum above) = false
+is_folded (shape.Group keys max value) = true
+is_folded (shape.Having keys sum above) = true
 is_folded (shape.Join left right) = false
 is_folded (shape.Skyline dims) = true
 is_folded (shape.Semi key inner) = false
@@ -34,6 +36,8 @@ abbrev pub StandsForKept : List (List ℕ) → Bound → Kept → List Row → T
 StandsForKept texts b (kept.Filter f) rows = StandsForFilter texts b f rows
 StandsForKept texts b (kept.Distinct f) rows = StandsForDistinct texts b f rows
 StandsForKept texts b (kept.Top f) rows = StandsForTop texts b f rows
+StandsForKept texts b (kept.Group f) rows = StandsForGroup texts b f rows
+StandsForKept texts b (kept.Having f) rows = StandsForHaving texts b f rows
 StandsForKept texts b (kept.Skyline f) rows = StandsForSkyline texts b f rows
 
 abbrev pub StandsFor : List (List ℕ) → Bound → Fold → List Row → Type 0

@@ -6,6 +6,7 @@ ghost use Rattle.ch_fold_lines.specs.Rows.{RowFits, answer_read};
 ghost use Rattle.ch_finish.specs.Fold.{StandsFor, is_folded, kept_size};
 
 use ch_cells::{Answer, Memory};
+use ch_fold_groups::{GroupFold, HavingFold};
 use ch_fold_lines::{DistinctFold, FilterFold};
 use ch_fold_orders::{SkylineFold, TopFold};
 use ch_pred::{Bound, Shape};
@@ -17,6 +18,8 @@ enum Kept {
     Filter(FilterFold),
     Distinct(DistinctFold),
     Top(TopFold),
+    Group(GroupFold),
+    Having(HavingFold),
     Skyline(SkylineFold),
 }
 
@@ -26,6 +29,8 @@ impl Drop for Kept {
             Kept::Filter(_) => {}
             Kept::Distinct(_) => {}
             Kept::Top(_) => {}
+            Kept::Group(_) => {}
+            Kept::Having(_) => {}
             Kept::Skyline(_) => {}
         }
     }
@@ -66,23 +71,25 @@ impl Fold {
                     kept: Kept::Top(fold),
                 })
             }
+            Shape::Group { keys, max, value } => {
+                let fold = GroupFold::new(alloc, query, keys.as_slice(), *max, *value)?;
+                Ok(Fold {
+                    kept: Kept::Group(fold),
+                })
+            }
+            Shape::Having { keys, sum, above } => {
+                let fold = HavingFold::new(alloc, query, keys.as_slice(), *sum, *above)?;
+                Ok(Fold {
+                    kept: Kept::Having(fold),
+                })
+            }
+            Shape::Join { left: _, right: _ } => Err(Memory),
             Shape::Skyline { dims } => {
                 let fold = SkylineFold::new(alloc, query, dims)?;
                 Ok(Fold {
                     kept: Kept::Skyline(fold),
                 })
             }
-            Shape::Group {
-                keys: _,
-                max: _,
-                value: _,
-            } => Err(Memory),
-            Shape::Having {
-                keys: _,
-                sum: _,
-                above: _,
-            } => Err(Memory),
-            Shape::Join { left: _, right: _ } => Err(Memory),
             Shape::Semi { key: _, inner: _ } => Err(Memory),
         }
     }
@@ -106,6 +113,8 @@ impl Fold {
             Kept::Filter(fold) => fold.add(query, ranks, side, words),
             Kept::Distinct(fold) => fold.add(query, ranks, side, words),
             Kept::Top(fold) => fold.add(query, ranks, side, words),
+            Kept::Group(fold) => fold.add(query, ranks, side, words),
+            Kept::Having(fold) => fold.add(query, ranks, side, words),
             Kept::Skyline(fold) => fold.add(query, ranks, side, words),
         }
     }
@@ -118,6 +127,8 @@ impl Fold {
             Kept::Filter(fold) => fold.size() as u64,
             Kept::Distinct(fold) => fold.size() as u64,
             Kept::Top(fold) => fold.size() as u64,
+            Kept::Group(fold) => fold.size() as u64,
+            Kept::Having(fold) => fold.size() as u64,
             Kept::Skyline(fold) => fold.size() as u64,
         }
     }
@@ -133,6 +144,8 @@ impl Fold {
             Kept::Filter(fold) => fold.answer(alloc, query, ranks),
             Kept::Distinct(fold) => fold.answer(alloc, query, ranks),
             Kept::Top(fold) => fold.answer(alloc, query, ranks),
+            Kept::Group(fold) => fold.answer(alloc, query, ranks),
+            Kept::Having(fold) => fold.answer(alloc, query, ranks),
             Kept::Skyline(fold) => fold.answer(alloc, query, ranks),
         }
     }

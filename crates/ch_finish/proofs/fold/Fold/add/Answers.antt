@@ -10,5 +10,11 @@ add-requires-in-Distinct-clause-names c = sound_names c.args.query.now c.require
 pub add-requires-in-Top-clause-names : goal.add-requires-in-Top-clause-names
 add-requires-in-Top-clause-names c = sound_names c.args.query.now c.requires.sound
 
+pub add-requires-in-Group-clause-names : goal.add-requires-in-Group-clause-names
+add-requires-in-Group-clause-names c = sound_names c.args.query.now c.requires.sound
+
+pub add-requires-in-Having-clause-names : goal.add-requires-in-Having-clause-names
+add-requires-in-Having-clause-names c = sound_names c.args.query.now c.requires.sound
+
 pub add-requires-in-Skyline-clause-names : goal.add-requires-in-Skyline-clause-names
 add-requires-in-Skyline-clause-names c = sound_names c.args.query.now c.requires.sound

@@ -10,5 +10,11 @@ answer-requires-in-Distinct c = record { names = sound_names c.args.query.now c.
 pub answer-requires-in-Top : goal.answer-requires-in-Top
 answer-requires-in-Top c = record { names = sound_names c.args.query.now c.requires.sound }
 
+pub answer-requires-in-Group : goal.answer-requires-in-Group
+answer-requires-in-Group c = record { names = sound_names c.args.query.now c.requires.sound }
+
+pub answer-requires-in-Having : goal.answer-requires-in-Having
+answer-requires-in-Having c = record { names = sound_names c.args.query.now c.requires.sound }
+
 pub answer-requires-in-Skyline : goal.answer-requires-in-Skyline
 answer-requires-in-Skyline c = record { names = sound_names c.args.query.now c.requires.sound }

@@ -16,3 +16,23 @@ pub returns-in-Distinct : goal.returns-in-Distinct
 returns-in-Distinct c = λ texts b rows s.
     let kept = subst (λ (k : Kept). StandsForKept texts b k rows) c.in-Distinct.is s in
     c.size-in-Distinct.ensures texts b rows kept ∙ sym (ap (λ (t : Shape). kept_size texts b t rows) kept.shape)
+
+pub returns-in-Top : goal.returns-in-Top
+returns-in-Top c = λ texts b rows s.
+    let kept = subst (λ (k : Kept). StandsForKept texts b k rows) c.in-Top.is s in
+    c.size-in-Top.ensures texts b rows kept kept.by kept.descending kept.limit kept.shape ∙ sym (ap (λ (t : Shape). kept_size texts b t rows) kept.shape)
+
+pub returns-in-Group : goal.returns-in-Group
+returns-in-Group c = λ texts b rows s.
+    let kept = subst (λ (k : Kept). StandsForKept texts b k rows) c.in-Group.is s in
+    c.size-in-Group.ensures texts b rows kept ∙ sym (ap (λ (t : Shape). kept_size texts b t rows) kept.shape)
+
+pub returns-in-Having : goal.returns-in-Having
+returns-in-Having c = λ texts b rows s.
+    let kept = subst (λ (k : Kept). StandsForKept texts b k rows) c.in-Having.is s in
+    c.size-in-Having.ensures texts b rows kept ∙ sym (ap (λ (t : Shape). kept_size texts b t rows) kept.shape)
+
+pub returns-in-Skyline : goal.returns-in-Skyline
+returns-in-Skyline c = λ texts b rows s.
+    let kept = subst (λ (k : Kept). StandsForKept texts b k rows) c.in-Skyline.is s in
+    c.size-in-Skyline.ensures texts b rows kept ∙ sym (ap (λ (t : Shape). kept_size texts b t rows) kept.shape)

@@ -1,0 +1,4 @@
+pub mod Kept
+pub mod Lines
+pub mod Group
+pub mod Having
