@@ -1,0 +1,23 @@
+use Rattle.std.proofs.Common.{◌≡◌, sym, subst}
+use Rattle.ch_schedule.specs.Event.{event_of}
+use Rattle.ch_engine.specs.declared.engine.Engine.{Engine}
+use Rattle.ch_run.specs.Runs.{IsRunOf}
+use Rattle.ch_run.proofs.Going.{goes, in_err, standing, stays, still_running}
+use Rattle.ch_run.proofs.run.Run.step.Goals as goal
+
+pub step-requires-clause-standing : goal.step-requires-clause-standing
+step-requires-clause-standing c = standing c.self.inside.engine c.self.invariant
+
+pub invariant_of-self : goal.invariant_of-self
+invariant_of-self c = still_running c.self.inside.engine c.step.new.self c.step.result (event_of c.args.event.now) c.self.invariant c.step.ensures.query c.step.ensures.ok c.step.ensures.err
+
+pub invariant_of-self-2 : goal.invariant_of-self-2
+invariant_of-self-2 c = still_running c.self.inside.engine c.step.new.self c.step.result (event_of c.args.event.now) c.self.invariant c.step.ensures.query c.step.ensures.ok c.step.ensures.err
+
+pub returns-in_err-step-clause-err : goal.returns-in_err-step-clause-err
+returns-in_err-step-clause-err c =
+    in_err c.from_residual.result (λ q s r. stays c.self.inside.engine c.step.new.self c.in_err-step.ensures.query c.in_err-step.ensures.err q s (subst (λ (x : Engine). IsRunOf q x s) (sym c.self.view_is) r))
+
+pub returns-clause-ok : goal.returns-clause-ok
+returns-clause-ok c q s r =
+    goes c.self.inside.engine c.step.new.self (event_of c.args.event.now) c.in_ok-step.ensures.query c.in_ok-step.ensures.ok q s (subst (λ (x : Engine). IsRunOf q x s) (sym c.self.view_is) r)
