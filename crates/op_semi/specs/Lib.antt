@@ -1,0 +1,10 @@
+pub mod Fine
+pub mod Policy
+pub mod Program
+pub mod Lists
+pub mod Agrees
+pub mod Order
+pub mod Came
+pub mod Serves
+pub mod Laws
+pub mod Worked
