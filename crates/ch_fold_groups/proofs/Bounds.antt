@@ -3,7 +3,7 @@ use Rattle.std.proofs.Common.{◌≡◌, ℕ, ◌*◌, ◌^◌, ◌≤◌, ◌<�
 use Rattle.std.specs.Prelude.{◌≤ℤ◌}
 use Rattle.std.specs.Ordering.{int_cmp}
 use Rattle.std.proofs.lemmas.Int.{ints}
-use Rattle.ch_lists.specs.Members.{In, Each}
+use Rattle.ch_lists.specs.Members.{Each}
 use Rattle.ch_lists.proofs.Members.{In-map, In-filter}
 use Rattle.ch_pred.specs.Meaning.{total, values_of}
 use Rattle.ch_fold_groups.specs.Kept.{IsWord, KeepsGroups, Valued}

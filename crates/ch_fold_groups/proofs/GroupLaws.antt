@@ -1,7 +1,7 @@
 -- What the fold of a query with groups keeps, row by row, and the answer over it.
-use Rattle.std.proofs.Common.{◌≡◌, ◌≢◌, ℕ, Bool, true, false, cond, List, [], ◌∷◌, ◌++◌, map, filter, length, refl, ap, sym, ◌∙◌, subst, inl, inr, ℤ, pos}
+use Rattle.std.proofs.Common.{◌≡◌, ◌≢◌, ℕ, Bool, true, false, cond, List, [], ◌∷◌, ◌++◌, map, filter, length, refl, ap, sym, ◌∙◌, subst, inl, ℤ, pos}
 use Rattle.std.specs.Prelude.{slice_index_or}
-use Rattle.std.specs.Ordering.{int_cmp, is_lt, is_eq}
+use Rattle.std.specs.Ordering.{int_cmp, is_lt}
 use Rattle.std.specs.Cmp.Lexicographic.{slice_cmp}
 use Rattle.std.specs.declared.cmp.Ordering.{Ordering}
 use Rattle.std.proofs.lemmas.List.{map-append}
@@ -29,14 +29,14 @@ use Rattle.ch_words.specs.Words.{asked_of_words, read_answer}
 use Rattle.ch_word_cells.specs.Fits.{FitsWord, WordsFit}
 use Rattle.ch_flat.specs.Flat.{Flat, pick}
 use Rattle.ch_fold_laws.specs.Kept.{value_of}
-use Rattle.ch_fold_lines.specs.Rows.{RowFits, RowsFit, answer_read, held, reading}
+use Rattle.ch_fold_lines.specs.Rows.{RowsFit, answer_read, held, reading}
 use Rattle.ch_fold_lines.specs.Shown.{best_kind, printed_kinds, shown_line}
 use Rattle.ch_fold_lines.proofs.WordFits.{words_fit}
 use Rattle.ch_fold_lines.proofs.Held.{held_fits}
 use Rattle.ch_fold_lines.proofs.Ordered.{bag_length, ordered-In}
 use Rattle.ch_fold_lines.proofs.ShownLaws.{LineFits, lines_shown, printed_there}
 use Rattle.ch_fold_groups.specs.Kept.{KeepsGroups, Valued}
-use Rattle.ch_fold_groups.specs.Lines.{group_place, value_lines}
+use Rattle.ch_fold_groups.specs.Lines.{value_lines}
 use Rattle.ch_fold_groups.specs.Group.{StandsForGroup, valued_keys}
 use Rattle.ch_fold_groups.specs.declared.group.GroupFold.{GroupFold}
 use Rattle.ch_fold_groups.proofs.KeyLines.{kept_length, kept_row, line_keys, pick_key, value_lines_are}

@@ -1,6 +1,6 @@
 -- What the fold of a query with sums keeps, row by row, and the answer over it.
-use Rattle.std.proofs.Common.{◌≡◌, ◌≢◌, ◌≤◌, ◌<◌, ◌^◌, ℕ, List, [], ◌∷◌, ◌++◌, map, filter, length, refl, ap, sym, ◌∙◌, subst, inl, inr, arith, ℤ, pos, Option, Some, None}
-use Rattle.std.specs.Prelude.{int_lt, option_map, slice_index_or}
+use Rattle.std.proofs.Common.{◌≡◌, ◌≢◌, ◌≤◌, ℕ, List, [], ◌∷◌, ◌++◌, map, filter, length, refl, ap, sym, ◌∙◌, subst, arith, ℤ, pos, Option, Some, None}
+use Rattle.std.specs.Prelude.{int_lt, option_map}
 use Rattle.std.specs.Ordering.{int_cmp}
 use Rattle.std.specs.Cmp.Lexicographic.{slice_cmp}
 use Rattle.std.proofs.lemmas.List.{length-map, map-append}
@@ -33,7 +33,7 @@ use Rattle.ch_fold_lines.proofs.Held.{each_more, held_fits, held_short}
 use Rattle.ch_fold_lines.proofs.Ordered.{bag_length, ordered-In}
 use Rattle.ch_fold_lines.proofs.ShownLaws.{LineFits, lines_shown, printed_there}
 use Rattle.ch_fold_groups.specs.Kept.{IsWord, KeepsGroups, Valued}
-use Rattle.ch_fold_groups.specs.Lines.{amount_at, group_place, key_lines, keys_above, place_of}
+use Rattle.ch_fold_groups.specs.Lines.{amount_at, key_lines, keys_above, place_of}
 use Rattle.ch_fold_groups.specs.Having.{StandsForHaving, summed_keys}
 use Rattle.ch_fold_groups.specs.declared.having.HavingFold.{HavingFold}
 use Rattle.ch_fold_groups.proofs.GroupLaws.{keys_of}

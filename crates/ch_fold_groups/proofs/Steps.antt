@@ -1,5 +1,5 @@
 -- A row more of a key that is there, or of a new one.
-use Rattle.std.proofs.Common.{◌≡◌, ℕ, suc, ◌+◌, ◌<◌, ◌≤◌, not, Bool, true, false, cond, ◌||◌, List, [], ◌∷◌, ◌++◌, map, filter, length, get_or, refl, ap, sym, ◌∙◌, subst, length-append, inl, inr, arith, ℤ, pos, ◌+ℤ◌, Option, Some, None, position}
+use Rattle.std.proofs.Common.{◌≡◌, ℕ, suc, ◌+◌, ◌<◌, ◌≤◌, not, Bool, true, false, cond, ◌||◌, List, [], ◌∷◌, ◌++◌, map, filter, length, get_or, refl, ap, sym, ◌∙◌, subst, length-append, inl, inr, arith, ℤ, pos, ◌+ℤ◌, Some, None, position}
 use Rattle.std.specs.Prelude.{slice_set, nat_lt}
 use Rattle.std.specs.List.{list_any, position_or_len}
 use Rattle.std.specs.Ordering.{int_cmp, is_eq}
@@ -11,7 +11,7 @@ use Rattle.std.proofs.lemmas.Bool.Decides.{nat_tests}
 use Rattle.std.proofs.lemmas.List.{map-append, length-map, get_or-map}
 use Rattle.std.proofs.lemmas.List.Folds.{list_any_at}
 use Rattle.std.proofs.lemmas.List.Quantifiers.{position-Some}
-use Rattle.ch_lists.specs.Members.{In, AreDifferent}
+use Rattle.ch_lists.specs.Members.{In}
 use Rattle.ch_lists.specs.Ordered.{is_among, once, IsExactOrder, SameBag}
 use Rattle.ch_lists.proofs.Bags.{any_same}
 use Rattle.ch_lists.proofs.Different.{among-In, among-from, once-In, once-from}

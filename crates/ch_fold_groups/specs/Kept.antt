@@ -1,5 +1,5 @@
 -- Keys with values, and what is kept of them.
-use Rattle.std.specs.Prelude.{◌≡◌, ℕ, ◌^◌, ◌-◌, List, ℤ, pos, negsuc, ◌≤ℤ◌, map}
+use Rattle.std.specs.Prelude.{◌≡◌, ◌^◌, ◌-◌, List, ℤ, pos, negsuc, ◌≤ℤ◌, map}
 use Rattle.std.specs.Ordering.{int_cmp}
 use Rattle.ch_lists.specs.Members.{AreDifferent}
 use Rattle.ch_lists.specs.Ordered.{SameBag}

@@ -1,0 +1,6 @@
+pub mod Firsts
+pub mod Sides
+pub mod SemiLaws
+pub mod Merge
+pub mod Grown
+pub mod JoinLaws

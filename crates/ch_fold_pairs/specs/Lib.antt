@@ -1,0 +1,5 @@
+pub mod Places
+pub mod Lines
+pub mod Pairs
+pub mod Semi
+pub mod Join
