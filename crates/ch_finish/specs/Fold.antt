@@ -1,5 +1,5 @@
 -- When a fold stands for a list of rows, and how much is kept of them.
-use Rattle.std.specs.Prelude.{Bool, true, false, ℕ, ◌+◌, List, map, min, length}
+use Rattle.std.specs.Prelude.{Bool, true, ℕ, ◌+◌, List, map, min, length}
 use Rattle.std.specs.Ordering.{int_cmp}
 use Rattle.std.specs.Cmp.Lexicographic.{slice_cmp}
 use Rattle.ch_lists.specs.Ordered.{once}
@@ -16,20 +16,15 @@ use Rattle.ch_fold_lines.specs.Distinct.{StandsForDistinct}
 use Rattle.ch_fold_lines.specs.Filter.{StandsForFilter}
 use Rattle.ch_fold_orders.specs.Skyline.{StandsForSkyline}
 use Rattle.ch_fold_orders.specs.Top.{StandsForTop}
+use Rattle.ch_fold_pairs.specs.Join.{StandsForJoin}
+use Rattle.ch_fold_pairs.specs.Semi.{StandsForSemi}
 use Rattle.ch_finish.specs.declared.fold.Fold.{Fold}
 use Rattle.ch_finish.specs.declared.fold.Kept.{Kept}
 use Rattle.ch_finish.specs.declared.fold.Kept.TheVariants as kept
 
--- the kinds that are folded
+-- each kind is folded
 abbrev pub is_folded : Shape → Bool
-is_folded shape.Filter = true
-is_folded shape.Distinct = true
-is_folded (shape.Top by descending limit) = true
-is_folded (shape.Group keys max value) = true
-is_folded (shape.Having keys sum above) = true
-is_folded (shape.Join left right) = false
-is_folded (shape.Skyline dims) = true
-is_folded (shape.Semi key inner) = false
+is_folded s = true
 
 -- each kind's relation says that the query is of this kind
 abbrev pub StandsForKept : List (List ℕ) → Bound → Kept → List Row → Type 0
@@ -38,7 +33,9 @@ StandsForKept texts b (kept.Distinct f) rows = StandsForDistinct texts b f rows
 StandsForKept texts b (kept.Top f) rows = StandsForTop texts b f rows
 StandsForKept texts b (kept.Group f) rows = StandsForGroup texts b f rows
 StandsForKept texts b (kept.Having f) rows = StandsForHaving texts b f rows
+StandsForKept texts b (kept.Join f) rows = StandsForJoin texts b f rows
 StandsForKept texts b (kept.Skyline f) rows = StandsForSkyline texts b f rows
+StandsForKept texts b (kept.Semi f) rows = StandsForSemi texts b f rows
 
 abbrev pub StandsFor : List (List ℕ) → Bound → Fold → List Row → Type 0
 StandsFor texts b fold rows = StandsForKept texts b fold.kept rows

@@ -1,9 +1,9 @@
-ghost use Rattle.std.specs.Prelude.{◌≡◌, true, ℕ, List, IfOk};
+ghost use Rattle.std.specs.Prelude.{◌≡◌, ℕ, List, IfOk};
 ghost use Rattle.ch_cover.specs.Rows.{Row};
 ghost use Rattle.ch_lists.specs.Members.{Each};
 ghost use Rattle.ch_pred.specs.Sound.{IsSound};
 ghost use Rattle.ch_fold_lines.specs.Rows.{RowFits, answer_read};
-ghost use Rattle.ch_finish.specs.Fold.{StandsFor, is_folded};
+ghost use Rattle.ch_finish.specs.Fold.{StandsFor};
 ghost use Rattle.ch_finish.specs.Received.{AreRowsOf};
 
 use crate::fold::Fold;
@@ -15,7 +15,6 @@ use std::alloc::Global;
 
 /// The fold of rows that arrived, one after another.
 pub fn folded(alloc: Global, query: &Bound, rows: &Received, ranks: &Ranks) -> Result<Fold, Memory>
-    requires shape { is_folded query.now.shape ≡ true }
     requires sound { IsSound query.now }
     requires fits { Each (λ a. RowFits ranks.now query.now a.side a.words) rows.now }
     ensures { (given : List Row) → AreRowsOf rows.now given → IfOk result (λ fold. StandsFor ranks.now query.now fold given) }
@@ -34,7 +33,6 @@ pub fn finish(
     rows: &Received,
     ranks: &Ranks,
 ) -> Result<Answer, Memory>
-    requires shape { is_folded query.now.shape ≡ true }
     requires sound { IsSound query.now }
     requires fits { Each (λ a. RowFits ranks.now query.now a.side a.words) rows.now }
     ensures header { IfOk result (λ a. a.header ≡ query.now.header) }

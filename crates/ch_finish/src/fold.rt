@@ -1,14 +1,15 @@
-ghost use Rattle.std.specs.Prelude.{◌≡◌, ℕ, true, ◌<◌, ◌^◌, ◌++◌, ◌∷◌, [], List, IfOk, OnOk, OnErr, length};
+ghost use Rattle.std.specs.Prelude.{◌≡◌, ℕ, ◌<◌, ◌^◌, ◌++◌, ◌∷◌, [], List, IfOk, OnOk, OnErr, length};
 ghost use Rattle.ch_cover.specs.Rows.{Row};
 ghost use Rattle.ch_pred.specs.Sound.{IsSound};
 ghost use Rattle.ch_pred.specs.declared.bound.Bound.{Bound as Query};
 ghost use Rattle.ch_fold_lines.specs.Rows.{RowFits, answer_read};
-ghost use Rattle.ch_finish.specs.Fold.{StandsFor, is_folded, kept_size};
+ghost use Rattle.ch_finish.specs.Fold.{StandsFor, kept_size};
 
 use ch_cells::{Answer, Memory};
 use ch_fold_groups::{GroupFold, HavingFold};
 use ch_fold_lines::{DistinctFold, FilterFold};
 use ch_fold_orders::{SkylineFold, TopFold};
+use ch_fold_pairs::{JoinFold, SemiFold};
 use ch_pred::{Bound, Shape};
 use ch_ranks::Ranks;
 use std::alloc::Global;
@@ -20,7 +21,9 @@ enum Kept {
     Top(TopFold),
     Group(GroupFold),
     Having(HavingFold),
+    Join(JoinFold),
     Skyline(SkylineFold),
+    Semi(SemiFold),
 }
 
 impl Drop for Kept {
@@ -31,7 +34,9 @@ impl Drop for Kept {
             Kept::Top(_) => {}
             Kept::Group(_) => {}
             Kept::Having(_) => {}
+            Kept::Join(_) => {}
             Kept::Skyline(_) => {}
+            Kept::Semi(_) => {}
         }
     }
 }
@@ -45,7 +50,6 @@ pub struct Fold {
 impl Fold {
     /// The fold of no rows.
     pub fn new(alloc: Global, query: &Bound) -> Result<Fold, Memory>
-        requires shape { is_folded query.now.shape ≡ true }
         ensures { (texts : List (List ℕ)) → IfOk result (λ fold. StandsFor texts query.now fold []) }
     {
         match &query.shape {
@@ -83,14 +87,24 @@ impl Fold {
                     kept: Kept::Having(fold),
                 })
             }
-            Shape::Join { left: _, right: _ } => Err(Memory),
+            Shape::Join { left, right } => {
+                let fold = JoinFold::new(alloc, query, *left, *right)?;
+                Ok(Fold {
+                    kept: Kept::Join(fold),
+                })
+            }
             Shape::Skyline { dims } => {
                 let fold = SkylineFold::new(alloc, query, dims)?;
                 Ok(Fold {
                     kept: Kept::Skyline(fold),
                 })
             }
-            Shape::Semi { key: _, inner: _ } => Err(Memory),
+            Shape::Semi { key, inner } => {
+                let fold = SemiFold::new(alloc, query, *key, *inner)?;
+                Ok(Fold {
+                    kept: Kept::Semi(fold),
+                })
+            }
         }
     }
 
@@ -115,7 +129,9 @@ impl Fold {
             Kept::Top(fold) => fold.add(query, ranks, side, words),
             Kept::Group(fold) => fold.add(query, ranks, side, words),
             Kept::Having(fold) => fold.add(query, ranks, side, words),
+            Kept::Join(fold) => fold.add(side, words),
             Kept::Skyline(fold) => fold.add(query, ranks, side, words),
+            Kept::Semi(fold) => fold.add(query, ranks, side, words),
         }
     }
 
@@ -129,7 +145,9 @@ impl Fold {
             Kept::Top(fold) => fold.size() as u64,
             Kept::Group(fold) => fold.size() as u64,
             Kept::Having(fold) => fold.size() as u64,
+            Kept::Join(fold) => fold.size(),
             Kept::Skyline(fold) => fold.size() as u64,
+            Kept::Semi(fold) => fold.size(),
         }
     }
 
@@ -146,7 +164,9 @@ impl Fold {
             Kept::Top(fold) => fold.answer(alloc, query, ranks),
             Kept::Group(fold) => fold.answer(alloc, query, ranks),
             Kept::Having(fold) => fold.answer(alloc, query, ranks),
+            Kept::Join(fold) => fold.answer(alloc, query, ranks),
             Kept::Skyline(fold) => fold.answer(alloc, query, ranks),
+            Kept::Semi(fold) => fold.answer(alloc, query, ranks),
         }
     }
 }

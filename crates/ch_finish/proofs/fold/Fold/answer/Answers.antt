@@ -1,3 +1,6 @@
+use Rattle.std.proofs.Common.{subst}
+use Rattle.ch_finish.specs.Fold.{StandsForKept}
+use Rattle.ch_finish.specs.declared.fold.Kept.{Kept}
 use Rattle.ch_words.proofs.SoundQueries.{sound_names}
 use Rattle.ch_finish.proofs.fold.Fold.answer.Goals as goal
 
@@ -18,3 +21,14 @@ answer-requires-in-Having c = record { names = sound_names c.args.query.now c.re
 
 pub answer-requires-in-Skyline : goal.answer-requires-in-Skyline
 answer-requires-in-Skyline c = record { names = sound_names c.args.query.now c.requires.sound }
+
+pub answer-requires-in-Semi : goal.answer-requires-in-Semi
+answer-requires-in-Semi c = record { names = sound_names c.args.query.now c.requires.sound }
+
+pub answer-requires-in-Join : goal.answer-requires-in-Join
+answer-requires-in-Join c =
+    let stands = c.requires.stands in
+    record {
+      sound = c.requires.sound;
+      stands = (stands.0, subst (λ (k : Kept). StandsForKept c.args.ranks.now c.args.query.now k stands.0) c.in-Join.is stands.1);
+    }

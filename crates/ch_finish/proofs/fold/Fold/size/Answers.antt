@@ -32,7 +32,17 @@ returns-in-Having c = λ texts b rows s.
     let kept = subst (λ (k : Kept). StandsForKept texts b k rows) c.in-Having.is s in
     c.size-in-Having.ensures texts b rows kept ∙ sym (ap (λ (t : Shape). kept_size texts b t rows) kept.shape)
 
+pub returns-in-Join : goal.returns-in-Join
+returns-in-Join c = λ texts b rows s.
+    let kept = subst (λ (k : Kept). StandsForKept texts b k rows) c.in-Join.is s in
+    c.size-in-Join.ensures texts b rows kept ∙ sym (ap (λ (t : Shape). kept_size texts b t rows) kept.shape)
+
 pub returns-in-Skyline : goal.returns-in-Skyline
 returns-in-Skyline c = λ texts b rows s.
     let kept = subst (λ (k : Kept). StandsForKept texts b k rows) c.in-Skyline.is s in
     c.size-in-Skyline.ensures texts b rows kept ∙ sym (ap (λ (t : Shape). kept_size texts b t rows) kept.shape)
+
+pub returns-in-Semi : goal.returns-in-Semi
+returns-in-Semi c = λ texts b rows s.
+    let kept = subst (λ (k : Kept). StandsForKept texts b k rows) c.in-Semi.is s in
+    c.size-in-Semi.ensures texts b rows kept ∙ sym (ap (λ (t : Shape). kept_size texts b t rows) kept.shape)
