@@ -1,18 +1,15 @@
 -- The program's verdicts are the policy's.
-use Rattle.std.proofs.Common.{◌≡◌, ◌<◌, ◌≤◌, ℕ, zero, suc, ◌+◌, ◌*◌, Bool, true, false, List, [], ◌∷◌, ◌++◌, ℤ, pos, inl, inr, refl, sym, ◌∙◌, ap, ap₂, arith, Some, None, length, nat_lt, replicate}
+use Rattle.std.proofs.Common.{◌≡◌, ◌<◌, ◌≤◌, ℕ, zero, suc, ◌+◌, ◌*◌, Bool, true, false, List, [], ◌∷◌, ◌++◌, ℤ, pos, inl, inr, refl, sym, ◌∙◌, ap, ap₂, arith, Some, None, length, replicate}
 use Rattle.std.specs.Prelude.{if◌then◌else◌, ◌||◌, ◌&&◌, ◌==◌, not}
-use Rattle.std.specs.Ordering.{int_cmp}
-use Rattle.std.specs.Cmp.Lexicographic.{slice_cmp}
 use Rattle.std.specs.Option.{option_and_then}
 use Rattle.std.proofs.lemmas.Bool.{and_parts, ltb-true}
 use Rattle.std.proofs.lemmas.List.{append-nil}
-use Rattle.ch_lists.specs.Ordered.{is_among}
 use Rattle.ch_cover.specs.Rows.{Row}
 use Rattle.ch_ir.specs.declared.program.Array.{Array}
 use Rattle.ch_ir.specs.Hash.{hash_of-below}
 use Rattle.ch_ir.specs.Machine.{Words, Registers, put_all, given, machine, ends, truth, is_set, cleared}
 use Rattle.ch_verdicts.specs.Handed.{IsPass}
-use Rattle.ch_verdicts.specs.Agrees.{Agrees, ArePassed}
+use Rattle.ch_verdicts.specs.Agrees.{Agrees}
 use Rattle.ch_words.specs.Policies.{Key, touched}
 use Rattle.op_moves.specs.Moves.{Move, Compute, moves_made}
 use Rattle.op_moves.specs.Made.{machine_made, moves_then}
@@ -20,7 +17,7 @@ use Rattle.op_moves.specs.Values.{row_words, put_all_below, put_all_at, computed
 use Rattle.op_moves.specs.Sheets.{sheets, sheets_cleared, arrays_at}
 use Rattle.op_moves.specs.Steps.{Steps, steps_agree}
 use Rattle.op_bloom.specs.Policy.{key_of, passes_bloom}
-use Rattle.op_bloom.specs.Program.{bad_word, end_of, bloom_moves, bloom_arrays}
+use Rattle.op_bloom.specs.Program.{end_of, bloom_moves, bloom_arrays}
 use Rattle.op_bloom.specs.Order.{bad_below}
 use Rattle.op_bloom.specs.Filter.{OfTwoSides, has_side, sides_of}
 use Rattle.op_bloom.specs.Run.{filters, bloomed}

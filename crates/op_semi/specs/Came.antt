@@ -1,5 +1,5 @@
 -- A listed key came with a row, and the rows that passed are inner rows of the second pass.
-use Rattle.std.proofs.Common.{◌≡◌, ℕ, zero, suc, eqb, eqb-true, Bool, true, false, cond, ◌&&◌, ◌||◌, List, [], ◌∷◌, take, refl, sym, ◌∙◌, ap, inl, inr}
+use Rattle.std.proofs.Common.{◌≡◌, ℕ, zero, suc, eqb, eqb-true, Bool, true, false, cond, ◌&&◌, List, [], ◌∷◌, take, refl, sym, ◌∙◌, ap, inl, inr}
 use Rattle.std.specs.Ordering.{int_cmp, is_eq}
 use Rattle.std.specs.Cmp.Lexicographic.{slice_cmp}
 use Rattle.std.proofs.lemmas.Bool.{or_cases, or_left, or_right}
@@ -11,7 +11,7 @@ use Rattle.ch_words.specs.Policies.{Key, without, touched, listed_after}
 use Rattle.op_bloom.specs.Policy.{passes_bloom}
 use Rattle.op_bloom.specs.Partners.{history}
 use Rattle.op_semi.specs.declared.sizes.Sizes.{Sizes}
-use Rattle.op_semi.specs.Policy.{is_passed, passed}
+use Rattle.op_semi.specs.Policy.{passed}
 
 abbrev among : Key → List Key → Bool
 among = is_among (slice_cmp int_cmp)

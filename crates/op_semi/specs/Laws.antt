@@ -1,8 +1,7 @@
 -- The laws of a semi-join as an operator.
-use Rattle.std.proofs.Common.{◌≡◌, ℕ, eqb, eqb-true, Bool, true, false, not, ◌&&◌, ◌||◌, List, [], ◌∷◌, refl, sym, ◌∙◌, ap, inl, inr}
+use Rattle.std.proofs.Common.{◌≡◌, eqb, eqb-true, Bool, true, false, not, ◌&&◌, ◌||◌, [], ◌∷◌, refl, sym, ap, inl, inr}
 use Rattle.std.specs.Prelude.{ℤ}
 use Rattle.std.proofs.lemmas.Bool.{and_parts, or_cases}
-use Rattle.ch_cover.specs.Rows.{Row}
 use Rattle.ch_cover.specs.Cover.{CoversTwice}
 use Rattle.ch_cover.proofs.Narrower.{narrower_twice}
 use Rattle.ch_pred.specs.declared.bound.Bound.{Bound}

@@ -1,5 +1,5 @@
 -- The lists of inner keys after a row more.
-use Rattle.std.proofs.Common.{◌≡◌, ◌≤◌, ℕ, zero, suc, eqb, Bool, true, false, cond, ◌&&◌, List, [], ◌∷◌, refl, sym, ◌∙◌, ap, ap₂, arith, length, inl, inr}
+use Rattle.std.proofs.Common.{◌≡◌, ◌≤◌, ℕ, Bool, true, false, ◌&&◌, List, [], ◌∷◌, refl, sym, ◌∙◌, ap, ap₂, arith, length, inl, inr}
 use Rattle.std.specs.Prelude.{if◌then◌else◌, ◌==◌}
 use Rattle.std.proofs.lemmas.Bool.{cases_eq, eq-eqb, ne_eqb}
 use Rattle.ch_cover.specs.Rows.{Row}
@@ -35,8 +35,8 @@ module _ (cols : ℕ) (row : Key → ℕ) (key : Row → Key) where
       let r : ℕ = row (key x.1) in
       elim (cases_eq q r) [
         | inl e ↦ ap (λ (t : Bool). if t then touched cols k (lists rows r) else lists rows q) (eq-eqb q r e)
-        ∙ (ap (λ (n : ℕ). touched cols k (lists rows n)) (sym e)
-        ∙ sym (ap₂ (λ (a b : Bool). if a && b then touched cols k (lists rows q) else lists rows q) (set refl) (eq-eqb r q (sym e))))
+            ∙ (ap (λ (n : ℕ). touched cols k (lists rows n)) (sym e)
+            ∙ sym (ap₂ (λ (a b : Bool). if a && b then touched cols k (lists rows q) else lists rows q) (set refl) (eq-eqb r q (sym e))))
         | inr n ↦ ap (λ (t : Bool). if t then touched cols k (lists rows r) else lists rows q) (ne_eqb q r n)
-        ∙ sym (ap₂ (λ (a b : Bool). if a && b then touched cols k (lists rows q) else lists rows q) (set refl) (ne_eqb r q (λ m. n (sym m))))
+            ∙ sym (ap₂ (λ (a b : Bool). if a && b then touched cols k (lists rows q) else lists rows q) (set refl) (ne_eqb r q (λ m. n (sym m))))
       ]

@@ -1,5 +1,5 @@
 -- The program breaks no rule, and is within the need.
-use Rattle.std.proofs.Common.{◌≡◌, ◌<◌, ◌≤◌, ℕ, zero, suc, ◌+◌, ◌*◌, [], ◌∷◌, ◌++◌, pos, refl, ◌∙◌, arith, max, replicate}
+use Rattle.std.proofs.Common.{◌≡◌, ◌<◌, ◌≤◌, ℕ, zero, suc, ◌+◌, ◌*◌, [], ◌∷◌, ◌++◌, refl, ◌∙◌, arith, max, replicate}
 use Rattle.std.proofs.lemmas.Bool.{lt-ltb}
 use Rattle.ch_ir.specs.Rules.{inputs, BreaksNoRule}
 use Rattle.ch_ir.specs.Measure.{sizes_of, greatest_array}
