@@ -12,7 +12,6 @@ use Rattle.ch_pred.specs.declared.bound.Bound.{Bound}
 use Rattle.ch_plan.specs.Kinds.{IsPlanOf, kind_policy, kind_program, kind_times}
 use Rattle.ch_plan.specs.Needs.{greatest_length}
 use Rattle.ch_plan.specs.declared.kind.PlanKind.{PlanKind}
-use Rattle.ch_plan.specs.declared.kind.PlanKind.TheVariants as kind
 use Rattle.ch_protocol.specs.Packets.{Part}
 use Rattle.ch_protocol.specs.Sets.{numbers_from}
 use Rattle.ch_protocol.specs.Machine.{Config, State, IsReached, passes, row_at, rows_in, size, start, stopped, workers}
@@ -24,6 +23,7 @@ use Rattle.ch_words.proofs.SoundQueries.{sound_tables}
 use Rattle.ch_fold_lines.specs.Rows.{RowFits}
 use Rattle.ch_fold_lines.proofs.WordFits.{sent_fit}
 use Rattle.ch_survival.specs.Asked.{answer_arrived, asked_gate, asked_rows}
+use Rattle.ch_verdicts.specs.Handed.{IsPass}
 use Rattle.ch_survival.specs.Given.{AreParts, Given, IsPlanned, given_of, no_part, side_of}
 use Rattle.ch_survival.proofs.Survives.{asked_starts, asked_survives}
 use Rattle.ch_ir.specs.Machine.{cleared}
@@ -96,9 +96,10 @@ parts_fit texts b tables k window t f low high =
       sides = λ w. part_side c.parts w (sides_small texts b tables t);
     }
 
--- a plan has one pass or two
-times_are : (k : PlanKind) → (if kind_times k == 2 then 2 else 1) ≡ kind_times k
-times_are (kind.Filter o) = refl
+-- one pass or two
+times_are : (n : ℕ) → IsPass n → (if n == 2 then 2 else 1) ≡ n
+times_are n (inl e) = rw e refl
+times_are n (inr e) = rw e refl
 
 pub planned : (texts : List (List ℕ)) (b : Bound) (tables : List TableValue) (k : PlanKind) (profile : Profile) (window : ℕ) → AreTables texts b tables → IsPlanOf k b profile → greatest_length b.carried ≤ 16
     → AreFew (parts_of texts b tables) → 1 ≤ window → window < 2 ^ 32 → IsPlanned (begun_of texts b tables k window).given
@@ -131,9 +132,9 @@ switch_is texts b tables k window n checked parts sw p ps l e =
     let many : n ≡ workers g.config = l ∙ (ap (λ (qs : List Part). length qs) ps ∙ sym (length-map (parts_of texts b tables) rows_in)) in
     e ∙ (ap (λ (r : Program). fresh r (cleared r.arrays) None n) p ∙ ap (λ m. fresh g.program g.begun g.slot m) many)
 
-pub answers : (texts : List (List ℕ)) (b : Bound) (tables : List TableValue) (k : PlanKind) (profile : Profile) (window : ℕ) → AreTables texts b tables → IsPlanOf k b profile
+pub answers : (texts : List (List ℕ)) (b : Bound) (tables : List TableValue) (k : PlanKind) (profile : Profile) (window : ℕ) → AreTables texts b tables → IsPlanOf k b profile → IsPass (kind_times k)
     → let c = config_of texts b tables k window in (s : State) → IsReached c s → stopped c s ≡ true
     → answer b (asked_tables b tables) ≡ answer_arrived texts b (rows_arrived c (passes c) s.received)
-answers texts b tables k profile window t p s r stop =
+answers texts b tables k profile window t p times s r stop =
     let c = config_of texts b tables k window in
-    asked_survives texts b (asked_tables b tables) k profile t.asked p c s refl (times_are k) (permuted texts b tables t c refl) r stop
+    asked_survives texts b (asked_tables b tables) k profile t.asked p c s refl (times_are (kind_times k) times) (permuted texts b tables t c refl) r stop

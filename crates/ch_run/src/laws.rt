@@ -1,7 +1,7 @@
 ghost use Rattle.std.specs.Prelude.{◌≡◌, ◌<◌, ℕ, true, List};
 ghost use Rattle.ch_ir.specs.declared.profile.Profile.{Profile};
 ghost use Rattle.ch_parts.specs.Scanned.{AreTables, asked_tables, parts_of};
-ghost use Rattle.ch_plan.specs.Kinds.{IsPlanOf};
+ghost use Rattle.ch_plan.specs.Kinds.{IsPlanOf, kind_times};
 ghost use Rattle.ch_plan.specs.declared.kind.PlanKind.{PlanKind};
 ghost use Rattle.ch_pred.specs.Meaning.{answer};
 ghost use Rattle.ch_pred.specs.declared.bound.Bound.{Bound};
@@ -9,12 +9,13 @@ ghost use Rattle.ch_protocol.specs.Machine.{State, IsReached, passes, stopped};
 ghost use Rattle.ch_protocol.specs.Received.{rows_arrived};
 ghost use Rattle.ch_survival.specs.Asked.{answer_arrived};
 ghost use Rattle.ch_tables.specs.TableValue.{TableValue};
+ghost use Rattle.ch_verdicts.specs.Handed.{IsPass};
 ghost use Rattle.ch_run.specs.Asked.{config_of};
 
 /// Once a run of a planned query has stopped, whatever its links did and whenever its switch restarted, the answer over what
 /// the master received is the query's over its tables.
 pub fn stopped_runs_answer()
-    ensures { (texts : List (List ℕ)) (b : Bound) (tables : List TableValue) (k : PlanKind) (profile : Profile) (window : ℕ) → AreTables texts b tables → IsPlanOf k b profile
+    ensures { (texts : List (List ℕ)) (b : Bound) (tables : List TableValue) (k : PlanKind) (profile : Profile) (window : ℕ) → AreTables texts b tables → IsPlanOf k b profile → IsPass (kind_times k)
         → let c = config_of texts b tables k window in (s : State) → IsReached c s → stopped c s ≡ true
         → answer b (asked_tables b tables) ≡ answer_arrived texts b (rows_arrived c (passes c) s.received) }
 {}
