@@ -79,7 +79,8 @@ pub fn read_hex(alloc: Global, field: &[u8]) -> Result<Option<Bytes>, Memory>
     read_bytes(alloc, field)
 }
 
-fn read_bytes(alloc: Global, digits: &[u8]) -> Result<Option<Bytes>, Memory>
+/// The bytes that two hexadecimal digits each spell, however many there are.
+pub fn read_bytes(alloc: Global, digits: &[u8]) -> Result<Option<Bytes>, Memory>
     ensures { IfOk result (λ bytes. bytes ≡ bytes_of digits.now) }
 {
     let mut bytes = Vec::with_capacity(alloc, digits.len() / 2)?;

@@ -9,6 +9,7 @@ mod step;
 #[cfg(test)]
 mod tests;
 
+pub use field::{natural, read_bytes};
 pub use laws::every_event_is_a_step;
 pub use read::{ScheduleError, ScheduleWhy, read_schedule};
 pub use step::{How, Link, Schedule, Step};
