@@ -1,0 +1,10 @@
+pub mod Asking
+pub mod Chains
+pub mod Gathered
+pub mod Grouping
+pub mod Meanings
+pub mod Naming
+pub mod Queues
+pub mod Reading
+pub mod Schedules
+pub mod Texts

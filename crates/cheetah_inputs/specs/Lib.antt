@@ -1,0 +1,6 @@
+pub mod Inputs
+pub mod Messages
+pub mod Parts
+pub mod Question
+pub mod Refusals
+pub mod Tables

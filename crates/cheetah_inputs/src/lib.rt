@@ -1,0 +1,17 @@
+//! What the files of the command give: the profile, the schedule, the tables and the query bound to them; or the line that
+//! refuses the first of them that is none.
+#![tactic(auto)]
+
+mod inputs;
+mod messages;
+mod parts;
+mod question;
+mod refusal;
+mod settings;
+mod shapes;
+mod tables;
+
+pub use inputs::{Inputs, names_in, read_inputs};
+pub use messages::{bind_line, schedule_line, sum_line};
+pub use question::read_question;
+pub use refusal::Refusal;
