@@ -25,7 +25,7 @@ use Rattle.ch_plan.specs.declared.kind.PlanKind.TheVariants as kind
 use Rattle.ch_plan.proofs.Placed.{dims_stand}
 
 -- the need of a query of some shape
-abbrev shape_need : Bound → Profile → Shape → Need
+abbrev pub shape_need : Bound → Profile → Shape → Need
 shape_need b profile s =
     let width = greatest_length b.carried + 3 in
     let n = keys_of b s in

@@ -5,3 +5,4 @@ pub mod WorkedNeeds
 pub mod Ranged
 pub mod Placed
 pub mod KindPlans
+pub mod KeyPlans

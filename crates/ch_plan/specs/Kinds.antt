@@ -25,57 +25,84 @@ use Rattle.op_skyline.specs.Emitted.{skyline_program}
 use Rattle.op_skyline.specs.Order.{skyline_need}
 use Rattle.op_skyline.specs.Policy.{skyline_policy}
 use Rattle.op_skyline.specs.Serves.{SkylineServes}
+use Rattle.op_distinct.specs.Program.{distinct_need, distinct_program}
+use Rattle.op_distinct.specs.Serving.{DistinctServes, distinct_policy}
+use Rattle.op_distinct.specs.Shown as distinct
+use Rattle.op_group.specs.Policy.{group_policy}
+use Rattle.op_group.specs.Program.{group_need, group_program}
+use Rattle.op_group.specs.Serving.{GroupServes}
+use Rattle.op_group.specs.Shown as group
+use Rattle.ch_pred.specs.Named.{printed_cols}
+use Rattle.ch_pred.specs.declared.pred.Col.{Col}
 use Rattle.ch_plan.specs.declared.kind.PlanKind.{PlanKind}
 use Rattle.ch_plan.specs.declared.kind.PlanKind.TheVariants as kind
 use Rattle.ch_plan.specs.Needs.{need_of, plan_refusal}
 
 abbrev pub kind_policy : PlanKind → Policy
 kind_policy (kind.Filter o) = by_bit
+kind_policy (kind.Distinct o) = distinct_policy (distinct.sizes o)
 kind_policy (kind.Top o) = top_policy o.sizes
+kind_policy (kind.Group o) = group_policy (group.sizes o)
 kind_policy (kind.Skyline o) = skyline_policy o.sizes
 
 abbrev pub kind_program : PlanKind → Program
 kind_program (kind.Filter o) = filter_program o.width
+kind_program (kind.Distinct o) = distinct_program (distinct.sizes o)
 kind_program (kind.Top o) = top_program o.sizes
+kind_program (kind.Group o) = group_program (group.sizes o)
 kind_program (kind.Skyline o) = skyline_program o.sizes
 
 abbrev pub kind_needs : PlanKind → Need
 kind_needs (kind.Filter o) = filter_need o.width
+kind_needs (kind.Distinct o) = distinct_need (distinct.sizes o)
 kind_needs (kind.Top o) = top_need o.sizes
+kind_needs (kind.Group o) = group_need (group.sizes o)
 kind_needs (kind.Skyline o) = skyline_need o.sizes
 
 -- the number of ops of a stage that it was made with
 abbrev pub kind_most : PlanKind → ℕ
 kind_most (kind.Filter o) = o.ops
+kind_most (kind.Distinct o) = o.ops
 kind_most (kind.Top o) = o.ops
+kind_most (kind.Group o) = o.ops
 kind_most (kind.Skyline o) = o.ops
 
 -- its number of passes
 abbrev pub kind_times : PlanKind → ℕ
 kind_times (kind.Filter o) = 1
+kind_times (kind.Distinct o) = 1
 kind_times (kind.Top o) = 1
+kind_times (kind.Group o) = 1
 kind_times (kind.Skyline o) = 1
 
 -- the queries that it serves
 abbrev pub kind_serves : PlanKind → Reading → Bound → Gate → Type 0
 kind_serves (kind.Filter o) d b gate = FilterServes d b gate
+kind_serves (kind.Distinct o) d b gate = DistinctServes (distinct.sizes o) d b gate
 kind_serves (kind.Top o) d b gate = TopServes o.sizes d b gate
+kind_serves (kind.Group o) d b gate = GroupServes (group.sizes o) d b gate
 kind_serves (kind.Skyline o) d b gate = SkylineServes o.sizes d b gate
 
 -- the operator is of the query's own kind
 abbrev pub is_own_kind : PlanKind → Shape → Bool
 is_own_kind (kind.Filter o) shape.Filter = true
+is_own_kind (kind.Distinct o) shape.Distinct = true
 is_own_kind (kind.Top o) (shape.Top by descending limit) = true
+is_own_kind (kind.Group o) (shape.Group keys max value) = true
 is_own_kind (kind.Skyline o) (shape.Skyline dims) = true
 is_own_kind _ _ = false
+
+-- key columns of the query's one table, each of which it carries
+abbrev pub AreKeys : Bound → List Col → Type 0
+AreKeys b cols = Each (λ c. IsCarried b c.side c.at) cols × (length b.carried ≡ 1)
 
 -- what the operator of a kind asks of a query: the columns that it reads are carried, and its numbers are in their ranges;
 -- the other kinds have no operator
 abbrev pub IsPlannable : Bound → Shape → Type 0
 IsPlannable b shape.Filter = Unit {0}
-IsPlannable b shape.Distinct = ⊥
+IsPlannable b shape.Distinct = AreKeys b (printed_cols b.printed)
 IsPlannable b (shape.Top by descending limit) = IsCarried b by.side by.at × (1 ≤ limit)
-IsPlannable b (shape.Group keys max value) = ⊥
+IsPlannable b (shape.Group keys max value) = AreKeys b keys × IsCarried b value.side value.at
 IsPlannable b (shape.Having keys sum above) = ⊥
 IsPlannable b (shape.Join left right) = ⊥
 IsPlannable b (shape.Skyline dims) = Each (λ k. IsCarried b k.col.side k.col.at) dims × (1 ≤ length dims) × (length dims ≤ 4)

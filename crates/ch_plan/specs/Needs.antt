@@ -9,6 +9,7 @@ use Rattle.ch_pred.specs.declared.pred.Col.{Col}
 use Rattle.ch_pred.specs.declared.bound.Bound.{Bound}
 use Rattle.ch_pred.specs.declared.bound.Shape.{Shape}
 use Rattle.ch_pred.specs.declared.bound.Shape.TheVariants as shape
+use Rattle.ch_places.specs.Different.{different}
 use Rattle.ch_prune.specs.declared.operator.Need.{Need}
 use Rattle.ch_plan.specs.declared.error.PlanError.{PlanError}
 use Rattle.ch_plan.specs.declared.error.PlanError.TheVariants.{Limit}
@@ -18,13 +19,9 @@ abbrev pub greatest_length : List (List ℕ) → ℕ
 greatest_length [] = 0
 greatest_length (columns ∷ rest) = max (length columns) (greatest_length rest)
 
-abbrev pub is_same_col : Col → Col → Bool
-is_same_col c e = (c.side == e.side) && (c.at == e.at)
-
 -- the number of different columns
 abbrev pub different_cols : List Col → ℕ
-different_cols [] = 0
-different_cols (c ∷ cols) = if list_any (is_same_col c) cols then different_cols cols else suc (different_cols cols)
+different_cols cols = length (different cols)
 
 -- the number of key columns or of dimensions
 abbrev pub keys_of : Bound → Shape → ℕ

@@ -4,16 +4,19 @@ ghost use Rattle.ch_pred.specs.Sound.{IsCarried};
 ghost use Rattle.ch_pred.specs.declared.bound.Shape.TheVariants as shape;
 ghost use Rattle.ch_plan.specs.Needs.{greatest_length, need_of, plan_refusal};
 ghost use Rattle.ch_plan.specs.Ranged.{IsRanged};
-ghost use Rattle.ch_plan.specs.Kinds.{IsPlanOf, IsPlannable};
+ghost use Rattle.ch_pred.specs.Named.{printed_cols};
+ghost use Rattle.ch_plan.specs.Kinds.{AreKeys, IsPlanOf, IsPlannable};
 
 use crate::kind::PlanKind;
 use crate::places::{directions_of, places_of, width_of};
 use crate::planned::{Planned, checked_program};
 use ch_cells::Memory;
 use ch_ir::Profile;
-use ch_places::place_of;
+use ch_places::{different_places, place_of, printed_cols};
 use ch_pred::{Bound, Col, Dim, Shape};
 use ch_prune::{Filter, Front, Operator};
+use op_distinct::Distinct;
+use op_group::Group;
 use op_skyline::Skyline;
 use op_topn::TopN;
 use std::alloc::Global;
@@ -96,6 +99,60 @@ fn plan_skyline(
     })
 }
 
+fn plan_distinct(alloc: Global, bound: &Bound, profile: &Profile) -> Result<Planned, Memory>
+    requires kind { bound.now.shape ≡ shape.Distinct }
+    requires keys { AreKeys bound.now (printed_cols bound.now.printed) }
+    requires few { greatest_length bound.now.carried ≤ 16 }
+    requires within { plan_refusal (need_of bound.now profile.now) profile.now ≡ None }
+    requires ranged { IsRanged profile.now }
+    ensures { IfOk result (λ p. IsPlanOf p.kind bound.now profile.now) }
+{
+    let cols = printed_cols(alloc, bound.printed.as_slice())?;
+    let key = different_places(alloc, bound, cols.as_slice())?;
+    let (ops, width) = (profile.ops, width_of(bound));
+    let (rows, columns) = (profile.distinct_rows, profile.distinct_cols);
+    let distinct = Distinct::new(Front::bit(), ops, width, rows, columns, key);
+    let passes = distinct.passes();
+    let checked = checked_program(alloc, &distinct, profile)?;
+    let kind = PlanKind::Distinct(distinct);
+    Ok(Planned {
+        kind,
+        checked,
+        passes,
+    })
+}
+
+fn plan_group(
+    alloc: Global,
+    bound: &Bound,
+    profile: &Profile,
+    keys: &[Col],
+    max: bool,
+    value: Col,
+) -> Result<Planned, Memory>
+    requires kind { bound.now.shape ≡ shape.Group keys.now max value }
+    requires keys { AreKeys bound.now keys.now }
+    requires carried { IsCarried bound.now value.side value.at }
+    requires few { greatest_length bound.now.carried ≤ 16 }
+    requires within { plan_refusal (need_of bound.now profile.now) profile.now ≡ None }
+    requires ranged { IsRanged profile.now }
+    ensures { IfOk result (λ p. IsPlanOf p.kind bound.now profile.now) }
+{
+    let key = different_places(alloc, bound, keys)?;
+    let (ops, width) = (profile.ops, width_of(bound));
+    let (rows, columns) = (profile.group_rows, profile.group_cols);
+    let value = place_of(bound, value);
+    let group = Group::new(Front::bit(), ops, width, rows, columns, key, value, max);
+    let passes = group.passes();
+    let checked = checked_program(alloc, &group, profile)?;
+    let kind = PlanKind::Group(group);
+    Ok(Planned {
+        kind,
+        checked,
+        passes,
+    })
+}
+
 /// The plan of a query whose need is within the limits.
 pub(crate) fn planned(alloc: Global, bound: &Bound, profile: &Profile) -> Result<Planned, Memory>
     requires kind { IsPlannable bound.now bound.now.shape }
@@ -106,6 +163,10 @@ pub(crate) fn planned(alloc: Global, bound: &Bound, profile: &Profile) -> Result
 {
     match &bound.shape {
         Shape::Filter => plan_filter(alloc, bound, profile),
+        Shape::Distinct => plan_distinct(alloc, bound, profile),
+        Shape::Group { keys, max, value } => {
+            plan_group(alloc, bound, profile, keys.as_slice(), *max, *value)
+        }
         Shape::Top {
             by,
             descending,

@@ -1,10 +1,12 @@
 ghost use Rattle.std.specs.Prelude.{◌≡◌, ◌≤◌, ◌<◌, ◌+◌, ◌*◌, ◌^◌};
 ghost use Rattle.ch_plan.specs.Kinds.{IsPlannable};
+ghost use Rattle.ch_plan.specs.Ranged.{IsRanged};
 ghost use Rattle.ch_plan.specs.Needs.{exceeds, greatest_length, need_of, plan_refusal};
 
 use crate::error::PlanError;
 use ch_cells::Listed;
 use ch_ir::{LimitName, Profile};
+use ch_places::{count_different, count_printed};
 use ch_pred::{Bound, Shape};
 use ch_prune::Need;
 
@@ -37,11 +39,26 @@ fn need_with(carried: u64, cells: u64, keys: u64, stages: u64) -> Need
 pub(crate) fn need_of(bound: &Bound, profile: &Profile) -> Need
     requires kind { IsPlannable bound.now bound.now.shape }
     requires few { greatest_length bound.now.carried ≤ 16 }
+    requires ranged { IsRanged profile.now }
     ensures { result ≡ need_of bound.now profile.now }
 {
     let carried = greatest_length(bound.carried.as_slice()) as u64;
     match &bound.shape {
         Shape::Filter => need_with(carried, 0, 1, 0),
+        Shape::Distinct => {
+            let keys = count_printed(bound.printed.as_slice()) as u64;
+            let cells = u64::from(profile.distinct_rows) * (keys + 1);
+            need_with(carried, cells, keys, u64::from(profile.distinct_cols))
+        }
+        Shape::Group {
+            keys,
+            max: _,
+            value: _,
+        } => {
+            let keys = count_different(keys.as_slice()) as u64;
+            let cells = u64::from(profile.group_rows) * (keys + 2);
+            need_with(carried, cells, keys, u64::from(profile.group_cols))
+        }
         Shape::Top {
             by: _,
             descending: _,
