@@ -1,0 +1,4 @@
+pub mod Added
+pub mod Typed
+pub mod Bound
+pub mod Asked

@@ -1,0 +1,11 @@
+//! What a query asks of its tables: the dictionary of its texts, and the laws that a query which is bound to tables can be run
+//! over them.
+#![tactic(auto)]
+
+mod laws;
+#[cfg(test)]
+mod tests;
+mod texts;
+
+pub use laws::{bound_queries_suit, read_tables_are_typed, suited_tables_are_asked};
+pub use texts::rank_texts;
