@@ -5,6 +5,6 @@ mod machine;
 mod query;
 mod table;
 
-pub use machine::{accepted_line, profile_line, program_line, refused_line};
+pub use machine::{accepted_line, limit_text, profile_line, program_line, refused_line};
 pub use query::query_line;
 pub use table::table_line;

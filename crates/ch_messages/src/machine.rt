@@ -36,7 +36,8 @@ pub fn program_line(alloc: Global, line: u32) -> Result<Bytes, Memory>
     Ok(Bytes::from_vec(said.into_bytes()))
 }
 
-fn limit_text(which: LimitName) -> &'static str
+/// The name of a limit.
+pub fn limit_text(which: LimitName) -> &'static str
     ensures { result.now ≡ limit_text which }
 {
     match which {

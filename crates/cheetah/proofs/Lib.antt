@@ -1,4 +1,5 @@
-pub mod Bindings
 pub mod Considered
+pub mod Fitting
 pub mod Meanings
+pub mod Planned
 pub mod Selections

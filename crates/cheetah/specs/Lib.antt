@@ -1,6 +1,4 @@
 pub mod Answering
-pub mod Binding
-pub mod Plain
+pub mod Planning
 pub mod Result
 pub mod Selection
-pub mod Words

@@ -1,17 +1,15 @@
 //! The command: from its words and files to what it writes and its status.
 #![tactic(auto)]
 
-mod binding;
-mod evaluation;
+mod answering;
 mod laws;
-mod plain;
+mod planning;
 mod selection;
 mod table_row;
 mod top;
 mod verdict;
-mod words;
 
-pub use laws::words_are_commands;
+pub use laws::{answers_are_meanings, words_are_commands};
 pub use top::cheetah;
 
 #[cfg(test)]

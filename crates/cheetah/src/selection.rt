@@ -2,7 +2,7 @@ ghost use Rattle.std.specs.Prelude.{◌≡◌, ◌<◌, ◌∷◌, ◌++◌, [],
 ghost use Rattle.ch_pred.specs.Meaning.{answer_of, holding, line, printed_of};
 ghost use Rattle.ch_pred.specs.Names.{NamesPrinted};
 ghost use Rattle.ch_pred.specs.Values.{cells};
-ghost use Rattle.cheetah.specs.Answering.{rows_of};
+ghost use Rattle.cheetah_inputs.specs.Tables.{rows_of};
 ghost use Rattle.cheetah.specs.Selection.{FitsTable};
 
 use crate::table_row::TableRow;

@@ -1,5 +1,5 @@
 -- The query bound to the tables: what its text comes to.
-use Rattle.std.specs.Prelude.{◌≡◌, ◌≢◌, ℕ, List, [], map, slice_get, Option, Some, None, option_and_then, Result, Ok, Err}
+use Rattle.std.specs.Prelude.{◌≡◌, ◌≢◌, ◌≤◌, ℕ, List, [], All, length, map, slice_get, Option, Some, None, option_and_then, Result, Ok, Err}
 use Rattle.std.specs.Option.{option_map_or}
 use Rattle.ch_bind.specs.Binding.{PlainBound, bound_of, plain_bound}
 use Rattle.ch_bind.specs.Checks.{bind_refusal}
@@ -10,6 +10,7 @@ use Rattle.ch_command.specs.Command.{ReadThen, Refuses, Then, refused}
 use Rattle.ch_command.specs.declared.outcome.Ending.TheVariants.{Input}
 use Rattle.ch_command.specs.declared.outcome.Outcome.{Outcome}
 use Rattle.ch_messages.specs.Query.{query_line}
+use Rattle.ch_pred.specs.Sound.{IsSound}
 use Rattle.ch_pred.specs.declared.bound.Bound.{Bound}
 use Rattle.ch_pred.specs.declared.pred.BoundPred.TheVariants.{Truth}
 use Rattle.ch_sql.specs.Reading.{IsQueryError}
@@ -78,6 +79,9 @@ pub record IsQuestion (text : List ℕ) (tables : List TableValue) (bound : Boun
   pub passes : bind_refusal query (map shape_of tables) ≡ None
   pub is_bound : plain_bound bound ≡ bound_of query (map shape_of tables)
   pub summed : sum_refusal bound tables ≡ None
+  -- so it is sound, and carries at most 16 columns of a table
+  pub sound : IsSound bound
+  pub few : All (λ columns. length columns ≤ 16) bound.carried
 
 abbrev pub ReadsQuestion : List ℕ → List TableValue → Result Bound Refusal → Type 0
 ReadsQuestion text tables (Ok bound) = IsQuestion text tables bound
@@ -88,6 +92,8 @@ pub record IsSelect (q : Select) (tables : List TableValue) (bound : Bound) : Ty
   pub passes : bind_refusal q (map shape_of tables) ≡ None
   pub is_bound : plain_bound bound ≡ bound_of q (map shape_of tables)
   pub summed : sum_refusal bound tables ≡ None
+  pub sound : IsSound bound
+  pub few : All (λ columns. length columns ≤ 16) bound.carried
 
 abbrev pub ReadsSelect : Select → List TableValue → Result Bound Refusal → Type 0
 ReadsSelect q tables (Ok bound) = IsSelect q tables bound

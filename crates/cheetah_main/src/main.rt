@@ -8,7 +8,8 @@ use cheetah::cheetah;
 use std::io;
 use std::process::ExitCode;
 
-const USAGE: &[u8] = b"usage: cheetah --query TEXT NAME=FILE\n";
+const USAGE: &[u8] =
+    b"usage: cheetah --query TEXT [--profile FILE] [--schedule FILE] [--plan] NAME=FILE ..\n";
 
 fn words_of(rt: &HostRuntime) -> io::Result<Listed<String>> {
     let words: Vec<String> = std::env::args(rt)?.collect(rt.alloc())?;

@@ -2,7 +2,7 @@ use Rattle.std.proofs.Common.{◌≤◌, ◌∙◌, length, ap, arith}
 use Rattle.std.proofs.lemmas.Bool.Decides.{nat_tests}
 use Rattle.ch_cells.specs.Row.{ascending}
 use Rattle.ch_pred.specs.Meaning.{holding, printed_of}
-use Rattle.cheetah.specs.Answering.{rows_of}
+use Rattle.cheetah_inputs.specs.Tables.{rows_of}
 use Rattle.cheetah.proofs.Selections.{all_parts, filter_rows}
 use Rattle.cheetah.proofs.selection.select.Goals as goal
 

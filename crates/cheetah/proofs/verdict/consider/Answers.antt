@@ -1,9 +1,29 @@
-use Rattle.std.proofs.Common.{◌∷◌, []}
-use Rattle.ch_command.proofs.Verdicts.{unread_fits}
-use Rattle.cheetah.specs.Answering.{OfParts}
+use Rattle.std.proofs.Common.{◌≡◌, ◌∙◌, ap, map, subst, sym}
+use Rattle.std.specs.Prelude.{string_bytes}
+use Rattle.ch_command.proofs.Verdicts.{judged_fits, unread_fits}
+use Rattle.ch_command.specs.Call.{faults_of}
+use Rattle.ch_command.specs.Verdict.{Fits}
+use Rattle.cheetah_inputs.specs.Inputs.{OfContents, names_of}
+use Rattle.cheetah_words.specs.Words.{Asking, Request, request_of, wish_of}
+use Rattle.cheetah.proofs.Meanings.{never_misused}
 use Rattle.cheetah.proofs.verdict.consider.Goals as goal
+use Rattle.cheetah.specs.Answering.{Answers}
+use Rattle.cheetah.specs.Result.{command_for}
 
-pub returns-in-Err-read_files-clause-fits : goal.returns-in-Err-read_files-clause-fits
-returns-in-Err-read_files-clause-fits g c =
-    let asked = c.in-Ok.asked in
-    rw c.in-Ok.ensures (unread_fits _ _ (asked.file.now ∷ []) (OfParts asked.text.now asked.name.now) c.in-Err-read_files.verdict c.in-Err-read_files.ensures.reads)
+pub returns-in-Ok-read_named-clause-fits : goal.returns-in-Ok-read_named-clause-fits
+returns-in-Ok-read_named-clause-fits g c =
+    let request : Request = request_of c.in-Ok.asked in
+    let told = g.F.Shelf.told c.args.shelf.now in
+    let shelf = faults_of g.F.Shelf.faults c.args.shelf.now c.read_named.new.shelf in
+    let asked : wish_of (map string_bytes c.args.words.now) ≡ Asking request = ap (λ ws. wish_of (map string_bytes ws)) (sym c.as_slice.ensures) ∙ c.in-Ok.ensures.asks in
+    let fits = judged_fits told shelf (names_of request) c.in-Ok-read_named.contents (OfContents request (Answers request.plan)) c.judge.result c.in-Ok-read_named.ensures.reads (never_misused request c.in-Ok-read_named.contents) c.judge.ensures in
+    subst (λ w. Fits told shelf (command_for w) c.of.result) (sym asked) (subst (λ v. Fits told shelf (command_for (Asking request)) v) (sym c.of.ensures) fits)
+
+pub returns-clause-fits : goal.returns-clause-fits
+returns-clause-fits g c =
+    let request : Request = request_of c.in-Ok.asked in
+    let told = g.F.Shelf.told c.args.shelf.now in
+    let shelf = faults_of g.F.Shelf.faults c.args.shelf.now c.read_named.new.shelf in
+    let asked : wish_of (map string_bytes c.args.words.now) ≡ Asking request = ap (λ ws. wish_of (map string_bytes ws)) (sym c.as_slice.ensures) ∙ c.in-Ok.ensures.asks in
+    subst (λ w. Fits told shelf (command_for w) c.in-Err-read_named.verdict) (sym asked)
+    (unread_fits told shelf (names_of request) (OfContents request (Answers request.plan)) c.in-Err-read_named.verdict c.in-Err-read_named.ensures.reads)

@@ -7,7 +7,7 @@ use Rattle.cheetah_inputs.specs.Tables.{shape_of}
 pub returns-in-Ok : goal.returns-in-Ok
 returns-in-Ok c =
     let same : c.in_ok-shapes.shapes ≡ map shape_of c.args.tables.now = c.in_ok-shapes.ensures.shapes ∙ ap (map shape_of) c.as_slice.ensures in
-    select_reads (select_of c.args.query.now) c.args.tables.now c.in_ok-shapes.shapes same c.in-Ok.bound c.summed.result c.in-Ok.ensures.bound.0 c.in-Ok.ensures.bound.1 c.summed.ensures
+    select_reads (select_of c.args.query.now) c.args.tables.now c.in_ok-shapes.shapes same c.in-Ok.bound c.summed.result c.in-Ok.ensures.bound.0 c.in-Ok.ensures.bound.1 c.in-Ok.ensures.sound c.in-Ok.ensures.few c.summed.ensures
 
 pub returns : goal.returns
 returns c =

@@ -1,0 +1,19 @@
+use Rattle.ch_command.specs.Command.{refused}
+use Rattle.ch_command.specs.declared.outcome.Ending.TheVariants.{Input}
+use Rattle.cheetah_inputs.proofs.Meanings.{contents_refused}
+use Rattle.cheetah_inputs.specs.Inputs.{profile_text}
+use Rattle.cheetah_words.specs.Words.{request_of}
+use Rattle.cheetah.proofs.Considered.{given_is_ranged, over_contents}
+use Rattle.cheetah.proofs.verdict.judge.Goals as goal
+use Rattle.cheetah.specs.Answering.{Answers}
+
+pub answer-requires-clause-ranged : goal.answer-requires-clause-ranged
+answer-requires-clause-ranged c = given_is_ranged (profile_text (request_of c.args.asked.now) c.args.contents) c.in-Ok.inputs.profile c.in-Ok.ensures.profile
+
+pub returns-in-Ok : goal.returns-in-Ok
+returns-in-Ok c = over_contents (request_of c.args.asked.now) c.args.contents c.in-Ok.inputs c.answer.result c.in-Ok.ensures c.answer.ensures
+
+pub returns-in-Err-Line : goal.returns-in-Err-Line
+returns-in-Err-Line c =
+    let refusal = rw c.in-Err-Line.field-0-is at c.in-Err-Line.ensures in
+    rw c.refused.ensures (contents_refused (request_of c.args.asked.now) c.args.contents (Answers c.args.asked.now.plan) (refused Input c.in-Err-Line.line) refusal)
