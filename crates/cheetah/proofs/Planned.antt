@@ -59,6 +59,8 @@ no_true e = cc
 -- the program of a filter's operator
 filter_planned : (k : PlanKind) (b : Bound) (profile : Profile) → b.shape ≡ shape.Filter → IsPlanOf k b profile → kind_program k ≡ program_of (plain_bound b)
 filter_planned (kind.Filter o) b profile shape is = ap filter_program (ap (λ (n : Need). n.width) is.needs)
+filter_planned (kind.Distinct o) b profile shape is = absurd (no_true (subst (λ s. is_own_kind (kind.Distinct o) s ≡ true) shape is.own))
+filter_planned (kind.Group o) b profile shape is = absurd (no_true (subst (λ s. is_own_kind (kind.Group o) s ≡ true) shape is.own))
 filter_planned (kind.Top o) b profile shape is = absurd (no_true (subst (λ s. is_own_kind (kind.Top o) s ≡ true) shape is.own))
 filter_planned (kind.Skyline o) b profile shape is = absurd (no_true (subst (λ s. is_own_kind (kind.Skyline o) s ≡ true) shape is.own))
 
