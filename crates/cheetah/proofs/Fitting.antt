@@ -104,9 +104,9 @@ first_name (source.Semi outer inner key inner_key) = outer
 
 module _ (shapes : List TableShape) where
   known_first : (s : Source) → table_refusal s shapes ≡ None → is_unknown shapes (first_name s) ≡ false
-  known_first (source.One table) e = elim (cases_Bool (is_unknown shapes table)) [ | inl t ↦ absurd (no_some _ (rw t at e)) | inr f ↦ f ]
-  known_first (source.Join left right first_on second_on) e = elim (cases_Bool (is_unknown shapes left)) [ | inl t ↦ absurd (no_some _ (rw t at e)) | inr f ↦ f ]
-  known_first (source.Semi outer inner key inner_key) e = elim (cases_Bool (is_unknown shapes outer)) [ | inl t ↦ absurd (no_some _ (rw t at e)) | inr f ↦ f ]
+  known_first (source.One table) e = elim (cases_Bool (is_unknown shapes table)) [ inl t ↦ absurd (no_some _ (rw t at e)) | inr f ↦ f ]
+  known_first (source.Join left right first_on second_on) e = elim (cases_Bool (is_unknown shapes left)) [ inl t ↦ absurd (no_some _ (rw t at e)) | inr f ↦ f ]
+  known_first (source.Semi outer inner key inner_key) e = elim (cases_Bool (is_unknown shapes outer)) [ inl t ↦ absurd (no_some _ (rw t at e)) | inr f ↦ f ]
 
   numbered : (name : List ℕ) → is_unknown shapes name ≡ false → (k : ℕ) × (number_of shapes name ≡ Some k) × (k < length shapes)
   numbered name e = by (number_of shapes name) refl e (found_within (λ (s : TableShape). bytes_eq name s.name) 0 shapes)
@@ -177,7 +177,7 @@ module _ (tables : List TableValue) (b : Bound) (q : Select) (passes : bind_refu
   carried_within side at h =
       let here : In at (slice_index_or b.carried 0 []) = subst (λ n. In at (slice_index_or b.carried n [])) h.1 h.0 in
       let same : slice_index_or b.carried 0 [] ≡ first_carried (scope_of q.source shapes) q =
-          ap (λ (p : PlainBound). slice_index_or p.carried 0 []) bound ∙ carried_first shapes q q.source refl in
+      ap (λ (p : PlainBound). slice_index_or p.carried 0 []) bound ∙ carried_first shapes q q.source refl in
       let carried : In at (first_carried (scope_of q.source shapes) q) = subst (λ cs. In at cs) same here in
       let within : at < 0 + length (scope_of q.source shapes).first.header = in_range at 0 (length (scope_of q.source shapes).first.header) (in_filtered _ at _ carried) in
       (h.1, omega (arith, within, header_is))

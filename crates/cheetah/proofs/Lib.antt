@@ -1,3 +1,4 @@
+pub mod Answered
 pub mod Considered
 pub mod Fitting
 pub mod Meanings

@@ -58,11 +58,11 @@ no_true e = cc
 
 -- the program of a filter's operator
 filter_planned : (k : PlanKind) (b : Bound) (profile : Profile) → b.shape ≡ shape.Filter → IsPlanOf k b profile → kind_program k ≡ program_of (plain_bound b)
-filter_planned (kind.Filter o) b profile shape is = ap filter_program (ap (λ (n : Need). n.width) is.needs)
-filter_planned (kind.Distinct o) b profile shape is = absurd (no_true (subst (λ s. is_own_kind (kind.Distinct o) s ≡ true) shape is.own))
-filter_planned (kind.Group o) b profile shape is = absurd (no_true (subst (λ s. is_own_kind (kind.Group o) s ≡ true) shape is.own))
-filter_planned (kind.Top o) b profile shape is = absurd (no_true (subst (λ s. is_own_kind (kind.Top o) s ≡ true) shape is.own))
-filter_planned (kind.Skyline o) b profile shape is = absurd (no_true (subst (λ s. is_own_kind (kind.Skyline o) s ≡ true) shape is.own))
+filter_planned (kind.Filter o) b profile e is = ap filter_program (ap (λ (n : Need). n.width) is.needs)
+filter_planned (kind.Distinct o) b profile e is = absurd (no_true (subst (λ s. is_own_kind (kind.Distinct o) s ≡ true) e is.own))
+filter_planned (kind.Group o) b profile e is = absurd (no_true (subst (λ s. is_own_kind (kind.Group o) s ≡ true) e is.own))
+filter_planned (kind.Top o) b profile e is = absurd (no_true (subst (λ s. is_own_kind (kind.Top o) s ≡ true) e is.own))
+filter_planned (kind.Skyline o) b profile e is = absurd (no_true (subst (λ s. is_own_kind (kind.Skyline o) s ≡ true) e is.own))
 
 module _ {E : Type 0} (b : Bound) (profile : Profile) (table : TableValue) where
   pub printed_comes : (k : PlanKind) (p : Program) (judged : Result Outcome E) → p ≡ kind_program k → b.shape ≡ shape.Filter → IsPlanOf k b profile → IfOk judged (λ outcome. outcome ≡ answered (program_text p))
@@ -101,9 +101,9 @@ pub over_tables : {E : Type 0} (plan : Bool) (given : Given) (b : Bound) (judged
 over_tables plan given b (Ok outcome) query kind k one comes =
     let q = plain_bound b in
     let rows : answer_over q given.tables ≡ meaning.answer_of b (rows_of (table_at given.tables k) ∷ []) =
-        ap (λ ns. meaning.answer_of b (map (λ n. rows_of (table_at given.tables n)) ns)) one in
+    ap (λ ns. meaning.answer_of b (map (λ n. rows_of (table_at given.tables n)) ns)) one in
     let here : outcome ≡ within_limits (limit_exceeded q given.profile) (text_asked plan q (answer_over q given.tables)) =
-        comes ∙ ap (λ (a : Answer). within_limits (limit_exceeded q given.profile) (text_asked plan q a)) (sym rows) in
+    comes ∙ ap (λ (a : Answer). within_limits (limit_exceeded q given.profile) (text_asked plan q a)) (sym rows) in
     subst (λ (p : PlainBound). outcome ≡ (if is_filter p.shape then within_limits (limit_exceeded p given.profile) (text_asked plan p (answer_over p given.tables)) else refused Input not_built_line)) (sym query) (rw (ap is_filter kind) here)
 over_tables plan given b (Err memory) query kind k one comes = tt
 

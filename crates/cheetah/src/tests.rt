@@ -194,10 +194,7 @@ const REFUSED: &[(&str, Files, &str)] = &[
     ),
     (
         "cheetah|--query|SELECT * FROM t|t=t",
-        &[(
-            "t",
-            b"\xEF\xBB\xBFid,name\r\n1,\"a,b\"\r\n007,\r\n3\r\n",
-        )],
+        &[("t", b"\xEF\xBB\xBFid,name\r\n1,\"a,b\"\r\n007,\r\n3\r\n")],
         "input: table t part 0 row 2: ragged, have 1 want 2\n",
     ),
     (
@@ -277,10 +274,7 @@ const REFUSED: &[(&str, Files, &str)] = &[
     ),
     (
         "cheetah|--query|SELECT k FROM t GROUP BY k HAVING SUM(v) > 1|t=t",
-        &[(
-            "t",
-            b"k,v\na,2305843009213693951\na,2305843009213693952\n",
-        )],
+        &[("t", b"k,v\na,2305843009213693951\na,2305843009213693952\n")],
         "input: query column 2: wrong kind\n",
     ),
     (
@@ -371,10 +365,7 @@ fn plans_are_refused_or_printed(rt: HostRuntime) -> Result<(), Fail> {
 /// Words that are no command, and the line that says so.
 const MISUSED: &[(&str, &str)] = &[
     ("", "usage: no words\n"),
-    (
-        "cheetah|--query|SELECT a FROM t|t",
-        "usage: table word 0\n",
-    ),
+    ("cheetah|--query|SELECT a FROM t|t", "usage: table word 0\n"),
     (
         "cheetah|--query|SELECT a FROM t|t=t.csv|=t.csv",
         "usage: table word 1\n",
@@ -407,8 +398,7 @@ const FAULTS: &[(&str, &Fails, u8, &str, &str)] = &[
     (UNKNOWN, OUT, 2, "", "input: query table 0: unknown\n"),
 ];
 
-const ALL: &str =
-    "cheetah|--query|SELECT a FROM t WHERE a > 4|--profile|p|--schedule|s|t=t.csv";
+const ALL: &str = "cheetah|--query|SELECT a FROM t WHERE a > 4|--profile|p|--schedule|s|t=t.csv";
 
 const UNKNOWN: &str = "cheetah|--query|SELECT a FROM u|t=t.csv";
 
