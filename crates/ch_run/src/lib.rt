@@ -1,6 +1,7 @@
 //! A run of a query: workers, switch and master over links of bytes, event by event.
 #![tactic(auto)]
 
+mod draining;
 mod laws;
 mod run;
 

@@ -1,0 +1,6 @@
+use Rattle.std.proofs.lemmas.Result.{on_ok_weaker}
+use Rattle.ch_run.proofs.Leading.{drained}
+use Rattle.ch_run.proofs.run.Run.drain.Goals as goal
+
+pub returns-clause-ok : goal.returns-clause-ok
+returns-clause-ok c = on_ok_weaker c.drain_all.result (λ f. drained c.args.self.now c.drain_all.new.self f) c.drain_all.ensures.ok

@@ -1,0 +1,10 @@
+use Rattle.std.proofs.Common.{◌≡◌, ◌-◌, ◌+◌, length, map, replicate}
+use Rattle.ch_protocol.specs.Machine.Event.{Resend, Up, Down, Back}
+use Rattle.ch_protocol.specs.Machine.How.{Take}
+use Rattle.ch_protocol.specs.Sets.{numbers_from}
+use Rattle.ch_protocol.specs.DrainEvents.{back_events, rounds_events, send_events, turns_events}
+use Rattle.ch_run.proofs.Leading.{IsOnTheWay}
+use Rattle.ch_run.proofs.run.Run.resends.Given as goal
+
+abbrev pub invariant-loop-place : goal.invariant-loop-place
+invariant-loop-place l = IsOnTheWay l.fn.self l.self (λ c t. map (λ place. Resend l.worker place) (numbers_from l.place (l.count - l.place))) (λ c s. map (λ place. Resend l.worker place) (numbers_from 0 l.count))
