@@ -1,17 +1,15 @@
 -- DISTINCT and GROUP BY are planned by their operators: their keys are the different columns.
-use Rattle.std.proofs.Common.{◌≡◌, ◌≤◌, ℕ, ◌+◌, ◌*◌, Bool, true, List, map, length, refl, sym, ◌∙◌, ap, ap₂, None, subst, arith, zero, suc, inl, inr, [], ◌∷◌}
+use Rattle.std.proofs.Common.{◌≡◌, ◌≤◌, ℕ, ◌+◌, ◌*◌, Bool, true, List, map, length, refl, sym, ◌∙◌, ap, None, subst, arith, zero, suc}
 use Rattle.std.specs.List.{list_all}
 use Rattle.std.proofs.lemmas.List.{length-map}
-use Rattle.ch_lists.specs.Members.{Each, In}
+use Rattle.ch_lists.specs.Members.{In}
 use Rattle.ch_ir.specs.declared.profile.Profile.{Profile}
 use Rattle.ch_ir.specs.declared.setting.Setting.TheVariants.{DistinctCols, DistinctRows, GroupCols, GroupRows}
 use Rattle.ch_pred.specs.Named.{printed_cols}
 use Rattle.ch_pred.specs.Sound.{IsCarried, carried_of}
 use Rattle.ch_pred.specs.declared.bound.Bound.{Bound}
-use Rattle.ch_pred.specs.declared.bound.Shape.{Shape}
 use Rattle.ch_pred.specs.declared.bound.Shape.TheVariants as shape
 use Rattle.ch_pred.specs.declared.pred.Col.{Col}
-use Rattle.ch_prune.specs.declared.operator.Need.{Need}
 use Rattle.ch_places.specs.Different.{different}
 use Rattle.ch_places.proofs.Few.{AreAmong, few_different, first_side}
 use Rattle.ch_places.proofs.Fits.{place_fits, places_fit}
@@ -64,10 +62,10 @@ product_below r (suc m) h = let more = product_below r m h in let e : r * suc m 
 pub product_few : (r m : ℕ) → r ≤ 65536 → m ≤ 18 → r * m ≤ 1179648
 product_few r m h k = let p = product_below r m h in omega arith
 
-key_fits : (b : Bound) (cols : List Col) → AreKeys b cols → list_all (is_place (greatest_length b.carried + 3)) (key_of b cols) ≡ true
+pub key_fits : (b : Bound) (cols : List Col) → AreKeys b cols → list_all (is_place (greatest_length b.carried + 3)) (key_of b cols) ≡ true
 key_fits b cols keys = places_fit b (greatest_length b.carried + 3) (λ side. let h = shorter b.carried side in omega arith) cols keys.0
 
-key_few : (b : Bound) (cols : List Col) → greatest_length b.carried ≤ 16 → AreKeys b cols → length (key_of b cols) ≤ 16
+pub key_few : (b : Bound) (cols : List Col) → greatest_length b.carried ≤ 16 → AreKeys b cols → length (key_of b cols) ≤ 16
 key_few b cols few keys = let e = length-map (different cols) (place_of b) in let h = keys_few b cols few keys in omega arith
 
 -- DISTINCT

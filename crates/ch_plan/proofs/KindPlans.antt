@@ -1,24 +1,17 @@
 -- SKYLINE OF is planned by its operator.
-use Rattle.std.proofs.Common.{◌≡◌, ℕ, ◌+◌, ◌*◌, Bool, true, List, map, length, refl, sym, ◌∙◌, ap, ap₂, None, subst}
+use Rattle.std.proofs.Common.{◌≡◌, ℕ, ◌+◌, ◌*◌, List, map, sym, ◌∙◌, ap, None, subst}
 use Rattle.std.proofs.lemmas.List.{length-map}
 use Rattle.ch_ir.specs.declared.profile.Profile.{Profile}
-use Rattle.ch_pred.specs.Sound.{carried_of, has_one_table, place_in}
 use Rattle.ch_pred.specs.declared.bound.Bound.{Bound}
 use Rattle.ch_pred.specs.declared.bound.Dim.{Dim}
 use Rattle.ch_pred.specs.declared.bound.Shape.{Shape}
 use Rattle.ch_pred.specs.declared.bound.Shape.TheVariants as shape
-use Rattle.ch_pred.specs.declared.pred.Col.{Col}
-use Rattle.ch_prune.specs.Filtering.{filter_need}
-use Rattle.ch_prune.specs.declared.filter.Filter.{Filter}
 use Rattle.ch_prune.specs.declared.operator.Need.{Need}
 use Rattle.op_moves.specs.Columns.{place_of}
 use Rattle.op_skyline.specs.Order.{skyline_need}
 use Rattle.op_skyline.specs.Serves.{DimsStandAt}
 use Rattle.op_skyline.specs.declared.sizes.Sizes as skyline_sizes
 use Rattle.op_skyline.specs.declared.skyline.Skyline.{Skyline}
-use Rattle.op_topn.specs.Order.{top_need}
-use Rattle.op_topn.specs.declared.sizes.Sizes as top_sizes
-use Rattle.op_topn.specs.declared.topn.TopN.{TopN}
 use Rattle.ch_plan.specs.Kinds.{IsPlanOf, is_own_kind}
 use Rattle.ch_plan.specs.Needs.{cells_for, greatest_length, keys_of, need_of, plan_refusal, stages_of}
 use Rattle.ch_plan.specs.declared.kind.PlanKind.TheVariants as kind

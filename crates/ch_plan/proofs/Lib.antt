@@ -6,3 +6,5 @@ pub mod Ranged
 pub mod Placed
 pub mod KindPlans
 pub mod KeyPlans
+pub mod TwoPassPlans
+pub mod HavingPlans

@@ -1,6 +1,6 @@
 -- Where carried columns stand.
-use Rattle.std.proofs.Common.{◌≡◌, ◌≤◌, ◌<◌, ℕ, zero, suc, ◌+◌, Bool, true, false, cond, ◌&&◌, max, List, [], ◌∷◌, map, take, length, get_or, refl, sym, ◌∙◌, ap, arith, inl, inr, eqb, leb, ltb}
-use Rattle.std.specs.Prelude.{nat_le, nat_lt, slice_index_or, ◌==◌, if◌then◌else◌}
+use Rattle.std.proofs.Common.{◌≡◌, ◌≤◌, ◌<◌, ℕ, zero, suc, ◌+◌, Bool, true, false, cond, List, [], ◌∷◌, map, length, get_or, refl, sym, arith, inl, inr, eqb, leb, ltb}
+use Rattle.std.specs.Prelude.{slice_index_or}
 use Rattle.std.specs.List.{list_all}
 use Rattle.std.proofs.lemmas.Bool.{and_from, eq-eqb, lt-ltb, le-leb}
 use Rattle.ch_lists.specs.Members.{In, Each}

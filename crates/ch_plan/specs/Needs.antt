@@ -1,6 +1,5 @@
 -- What a plan needs of each limit, by the query and the profile alone, and the first limit that it exceeds.
-use Rattle.std.specs.Prelude.{ℕ, suc, ◌+◌, ◌*◌, ◌==◌, max, nat_lt, Bool, ◌&&◌, if◌then◌else◌, List, [], ◌∷◌, length, Option, Some, None}
-use Rattle.std.specs.List.{list_any}
+use Rattle.std.specs.Prelude.{ℕ, ◌+◌, ◌*◌, max, nat_lt, if◌then◌else◌, List, [], ◌∷◌, length, Option, Some, None}
 use Rattle.ch_ir.specs.declared.profile.Profile.{Profile}
 use Rattle.ch_ir.specs.declared.rules.LimitName.{LimitName}
 use Rattle.ch_ir.specs.declared.rules.LimitName.TheVariants.{Width, Cells, Words, Stages}

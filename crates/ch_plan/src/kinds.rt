@@ -1,11 +1,12 @@
-ghost use Rattle.std.specs.Prelude.{◌≡◌, ◌≤◌, None, IfOk, length};
+ghost use Rattle.std.specs.Prelude.{◌≡◌, ◌≤◌, None, IfOk, length, true};
+ghost use Rattle.ch_prune.specs.Sent.{is_cell_word};
 ghost use Rattle.ch_lists.specs.Members.{Each};
 ghost use Rattle.ch_pred.specs.Sound.{IsCarried};
 ghost use Rattle.ch_pred.specs.declared.bound.Shape.TheVariants as shape;
 ghost use Rattle.ch_plan.specs.Needs.{greatest_length, need_of, plan_refusal};
 ghost use Rattle.ch_plan.specs.Ranged.{IsRanged};
 ghost use Rattle.ch_pred.specs.Named.{printed_cols};
-ghost use Rattle.ch_plan.specs.Kinds.{AreKeys, IsPlanOf, IsPlannable};
+ghost use Rattle.ch_plan.specs.Kinds.{AreKeys, IsPlanOf, IsPlannable, IsSumCarried, sum_place};
 
 use crate::kind::PlanKind;
 use crate::places::{directions_of, places_of, width_of};
@@ -17,6 +18,9 @@ use ch_pred::{Bound, Col, Dim, Shape};
 use ch_prune::{Filter, Front, Operator};
 use op_distinct::Distinct;
 use op_group::Group;
+use op_having::HavingOp;
+use op_join::JoinOp;
+use op_semi::Semi;
 use op_skyline::Skyline;
 use op_topn::TopN;
 use std::alloc::Global;
@@ -153,6 +157,124 @@ fn plan_group(
     })
 }
 
+/// The place of what is summed.
+fn sum_place(bound: &Bound, sum: Option<Col>) -> Option<u32>
+    requires carried { IsSumCarried bound.now sum }
+    requires few { greatest_length bound.now.carried ≤ 16 }
+    ensures { result ≡ sum_place bound.now sum }
+{
+    match sum {
+        Some(col) => Some(place_of(bound, col)),
+        None => None,
+    }
+}
+
+fn plan_having(
+    alloc: Global,
+    bound: &Bound,
+    profile: &Profile,
+    keys: &[Col],
+    sum: Option<Col>,
+    above: i64,
+) -> Result<Planned, Memory>
+    requires kind { bound.now.shape ≡ shape.Having keys.now sum above }
+    requires keys { AreKeys bound.now keys.now }
+    requires carried { IsSumCarried bound.now sum }
+    requires above { is_cell_word above ≡ true }
+    requires few { greatest_length bound.now.carried ≤ 16 }
+    requires within { plan_refusal (need_of bound.now profile.now) profile.now ≡ None }
+    requires ranged { IsRanged profile.now }
+    ensures { IfOk result (λ p. IsPlanOf p.kind bound.now profile.now) }
+{
+    let key = different_places(alloc, bound, keys)?;
+    let value = sum_place(bound, sum);
+    let (ops, width) = (profile.ops, width_of(bound));
+    let (hashes, cells) = (profile.sketch_hashes, profile.sketch_cells);
+    let front = Front::bit();
+    let having = HavingOp::new(front, ops, width, hashes, cells, key, value, above);
+    let passes = having.passes();
+    let checked = checked_program(alloc, &having, profile)?;
+    let kind = PlanKind::Having(having);
+    Ok(Planned {
+        kind,
+        checked,
+        passes,
+    })
+}
+
+fn plan_join(
+    alloc: Global,
+    bound: &Bound,
+    profile: &Profile,
+    left: Col,
+    right: Col,
+) -> Result<Planned, Memory>
+    requires kind { bound.now.shape ≡ shape.Join left right }
+    requires left { IsCarried bound.now left.side left.at }
+    requires right { IsCarried bound.now right.side right.at }
+    requires first { left.side ≡ 0 }
+    requires second { right.side ≡ 1 }
+    requires few { greatest_length bound.now.carried ≤ 16 }
+    requires within { plan_refusal (need_of bound.now profile.now) profile.now ≡ None }
+    requires ranged { IsRanged profile.now }
+    ensures { IfOk result (λ p. IsPlanOf p.kind bound.now profile.now) }
+{
+    let (ops, width) = (profile.ops, width_of(bound));
+    let (hashes, cells) = (profile.bloom_hashes, profile.bloom_cells);
+    let first = place_of(bound, left);
+    let second = place_of(bound, right);
+    let join = JoinOp::new(Front::bit(), ops, width, hashes, cells, first, second);
+    let passes = join.passes();
+    let checked = checked_program(alloc, &join, profile)?;
+    let kind = PlanKind::Join(join);
+    Ok(Planned {
+        kind,
+        checked,
+        passes,
+    })
+}
+
+fn plan_semi(
+    alloc: Global,
+    bound: &Bound,
+    profile: &Profile,
+    key: Col,
+    inner: Col,
+) -> Result<Planned, Memory>
+    requires kind { bound.now.shape ≡ shape.Semi key inner }
+    requires key { IsCarried bound.now key.side key.at }
+    requires inner { IsCarried bound.now inner.side inner.at }
+    requires few { greatest_length bound.now.carried ≤ 16 }
+    requires within { plan_refusal (need_of bound.now profile.now) profile.now ≡ None }
+    requires ranged { IsRanged profile.now }
+    ensures { IfOk result (λ p. IsPlanOf p.kind bound.now profile.now) }
+{
+    let (ops, width) = (profile.ops, width_of(bound));
+    let (hashes, cells) = (profile.bloom_hashes, profile.bloom_cells);
+    let (rows, cols) = (profile.distinct_rows, profile.distinct_cols);
+    let outer = place_of(bound, key);
+    let place = place_of(bound, inner);
+    let semi = Semi::new(
+        Front::bit(),
+        ops,
+        width,
+        hashes,
+        cells,
+        rows,
+        cols,
+        outer,
+        place,
+    );
+    let passes = semi.passes();
+    let checked = checked_program(alloc, &semi, profile)?;
+    let kind = PlanKind::Semi(semi);
+    Ok(Planned {
+        kind,
+        checked,
+        passes,
+    })
+}
+
 /// The plan of a query whose need is within the limits.
 pub(crate) fn planned(alloc: Global, bound: &Bound, profile: &Profile) -> Result<Planned, Memory>
     requires kind { IsPlannable bound.now bound.now.shape }
@@ -173,6 +295,10 @@ pub(crate) fn planned(alloc: Global, bound: &Bound, profile: &Profile) -> Result
             limit,
         } => plan_top(alloc, bound, profile, *by, *descending, *limit),
         Shape::Skyline { dims } => plan_skyline(alloc, bound, profile, dims.as_slice()),
-        _ => unreachable!(),
+        Shape::Having { keys, sum, above } => {
+            plan_having(alloc, bound, profile, keys.as_slice(), *sum, *above)
+        }
+        Shape::Join { left, right } => plan_join(alloc, bound, profile, *left, *right),
+        Shape::Semi { key, inner } => plan_semi(alloc, bound, profile, *key, *inner),
     }
 }

@@ -69,7 +69,25 @@ pub(crate) fn need_of(bound: &Bound, profile: &Profile) -> Need
             let points = u64::from(profile.skyline_points);
             need_with(carried, dimensions + 2, dimensions, points)
         }
-        _ => unreachable!(),
+        Shape::Having {
+            keys,
+            sum: _,
+            above: _,
+        } => {
+            let keys = count_different(keys.as_slice()) as u64;
+            let cells = u64::from(profile.sketch_cells);
+            need_with(carried, cells, keys, u64::from(profile.sketch_hashes))
+        }
+        Shape::Join { left: _, right: _ } => {
+            let cells = 2 * u64::from(profile.bloom_cells);
+            need_with(carried, cells, 1, u64::from(profile.bloom_hashes))
+        }
+        Shape::Semi { key: _, inner: _ } => {
+            let filters = 2 * u64::from(profile.bloom_cells);
+            let lists = 2 * u64::from(profile.distinct_rows);
+            let stages = u64::from(profile.bloom_hashes) + u64::from(profile.distinct_cols);
+            need_with(carried, filters.max(lists), 1, stages)
+        }
     }
 }
 

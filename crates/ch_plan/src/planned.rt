@@ -54,8 +54,7 @@ pub(crate) fn checked_program<O: Operator>(
     accept(alloc, program, profile)
 }
 
-/// Plans a query, or answers the first limit that its need exceeds. Today it takes a filter, DISTINCT, ORDER BY with LIMIT,
-/// GROUP BY with MAX or MIN and SKYLINE OF, since no other kind has an operator here.
+/// Plans a query, or answers the first limit that its need exceeds.
 pub fn plan(alloc: Global, bound: &Bound, profile: &Profile) -> Result<Planned, PlanError>
     requires kind { IsPlannable bound.now bound.now.shape }
     requires few { greatest_length bound.now.carried ≤ 16 }

@@ -1,4 +1,4 @@
-ghost use Rattle.std.specs.Prelude.{◌≡◌, ◌<◌, ◌≤◌, [], ◌∷◌, true, false, IfOk, length};
+ghost use Rattle.std.specs.Prelude.{◌≡◌, ◌<◌, ◌≤◌, [], ◌∷◌, true, false, IfOk, None, length, pos};
 ghost use Rattle.ch_plan.specs.Kinds.{IsPlannable};
 ghost use Rattle.ch_plan.specs.Needs.{greatest_length};
 ghost use Rattle.ch_pred.specs.declared.bound.Shape.TheVariants as shape;
@@ -11,6 +11,8 @@ use std::alloc::Global;
 use std::test::Fail;
 
 const A: Col = Col { side: 0, at: 0 };
+
+const OTHER: Col = Col { side: 1, at: 0 };
 
 fn one<T: Drop>(alloc: Global, item: T) -> Result<Listed<T>, Memory>
     ensures { IfOk result (λ list. list ≡ item ∷ []) }
@@ -66,6 +68,31 @@ fn skyline_query(alloc: Global) -> Result<Bound, Memory>
     Ok(query)
 }
 
+/// SELECT a FROM t GROUP BY a HAVING COUNT(*) > 5
+fn having_query(alloc: Global) -> Result<Bound, Memory>
+    ensures { IfOk result (λ b. (b.shape ≡ shape.Having (record { side = 0; at = 0 } ∷ []) None (pos 5)) × (b.carried ≡ (0 ∷ []) ∷ [])) }
+{
+    let mut query = query(alloc)?;
+    let keys = one(alloc, A)?;
+    query.shape = Shape::Having {
+        keys,
+        sum: None,
+        above: 5,
+    };
+    Ok(query)
+}
+
+/// A query that carries the first column of two tables, by its kind.
+fn of_two_tables(alloc: Global, shape: Shape) -> Result<Bound, Memory>
+    ensures { IfOk result (λ b. (b.shape ≡ shape) × (b.carried ≡ (0 ∷ []) ∷ (0 ∷ []) ∷ [])) }
+{
+    let mut query = query(alloc)?;
+    let columns = one(alloc, 0)?;
+    query.carried.push(columns)?;
+    query.shape = shape;
+    Ok(query)
+}
+
 /// How a query is planned by a profile: its number of passes, or why it is refused.
 #[tactic(auto, using(crate::proofs::Ranged::read_is_ranged))]
 fn planned(alloc: Global, query: &Bound, profile: &[u8]) -> Result<Result<u8, PlanError>, Fail>
@@ -111,5 +138,52 @@ fn skyline_is_planned_or_refused(rt: HostRuntime) -> Result<(), Fail> {
     assert!(rt; planned(rt.alloc(), &query, b"skyline_points 3\nstages 5")? == Ok(1));
     let cells = refused(LimitName::Cells, 3, 2);
     assert!(rt; planned(rt.alloc(), &query, b"cells 2")? == Err(cells));
+    Ok(())
+}
+
+#[test]
+fn having_is_planned_or_refused(rt: HostRuntime) -> Result<(), Fail> {
+    let query = having_query(rt.alloc())?;
+    assert!(rt; planned(rt.alloc(), &query, b"sketch_hashes 1\nstages 3")? == Ok(2));
+    let cells = refused(LimitName::Cells, 2, 1);
+    assert!(rt; planned(rt.alloc(), &query, b"sketch_cells 2\ncells 1")? == Err(cells));
+    Ok(())
+}
+
+#[test]
+fn join_is_planned_or_refused(rt: HostRuntime) -> Result<(), Fail> {
+    let shape = Shape::Join {
+        left: A,
+        right: OTHER,
+    };
+    let query = of_two_tables(rt.alloc(), shape)?;
+    assert!(rt; planned(rt.alloc(), &query, b"bloom_hashes 1\nstages 3")? == Ok(2));
+    let cells = refused(LimitName::Cells, 2, 1);
+    assert!(rt; planned(rt.alloc(), &query, b"bloom_cells 1\ncells 1")? == Err(cells));
+    Ok(())
+}
+
+#[test]
+fn semi_join_is_planned_or_refused(rt: HostRuntime) -> Result<(), Fail> {
+    let shape = Shape::Semi {
+        key: A,
+        inner: OTHER,
+    };
+    let query = of_two_tables(rt.alloc(), shape)?;
+    assert!(rt;
+        planned(
+            rt.alloc(),
+            &query,
+            b"bloom_hashes 1\ndistinct_cols 1\nstages 4"
+        )? == Ok(2)
+    );
+    let stages = refused(LimitName::Stages, 4, 3);
+    assert!(rt;
+        planned(
+            rt.alloc(),
+            &query,
+            b"bloom_hashes 1\ndistinct_cols 1\nstages 3"
+        )? == Err(stages)
+    );
     Ok(())
 }

@@ -1,12 +1,12 @@
 -- The program's verdicts are the policy's.
-use Rattle.std.proofs.Common.{◌≡◌, ◌<◌, ℕ, ◌*◌, Bool, true, false, List, [], ◌∷◌, ◌++◌, inl, inr, refl, sym, ◌∙◌, ap, Some, None, nat_lt}
+use Rattle.std.proofs.Common.{◌≡◌, ◌<◌, ℕ, ◌*◌, Bool, true, false, List, [], ◌∷◌, refl, sym, ◌∙◌, ap, Some, None}
 use Rattle.std.specs.Prelude.{◌||◌, ◌==◌, not}
 use Rattle.std.specs.Option.{option_and_then}
 use Rattle.std.proofs.lemmas.Bool.{ltb-true}
 use Rattle.std.proofs.lemmas.List.{append-nil}
 use Rattle.ch_cover.specs.Rows.{Row}
 use Rattle.ch_ir.specs.Machine.{Words, Registers, given, machine, ends, cleared}
-use Rattle.ch_verdicts.specs.Agrees.{Agrees, ArePassed}
+use Rattle.ch_verdicts.specs.Agrees.{Agrees}
 use Rattle.op_moves.specs.Moves.{Compute, moves_made}
 use Rattle.op_moves.specs.Made.{machine_made, moves_then}
 use Rattle.op_moves.specs.Values.{row_words, finished}

@@ -1,19 +1,15 @@
 -- The laws of a join as an operator.
-use Rattle.std.proofs.Common.{◌≡◌, ℕ, Bool, true, false, not, ◌||◌, List, map, refl, sym, ◌∙◌, ap, inl, inr, nat_lt}
-use Rattle.std.specs.Prelude.{ℤ, ◌==◌, if◌then◌else◌}
+use Rattle.std.proofs.Common.{◌≡◌, Bool, true, false, not, refl, sym, inl, inr}
 use Rattle.std.proofs.lemmas.Bool.{and_parts, or_cases}
 use Rattle.ch_cover.specs.Rows.{Row}
 use Rattle.ch_cover.specs.Cover.{CoversTwice}
 use Rattle.ch_cover.proofs.Narrower.{narrower_twice}
-use Rattle.ch_pred.specs.Meaning.{at}
 use Rattle.ch_pred.specs.declared.bound.Bound.{Bound}
 use Rattle.ch_prune.specs.Sent.{is_sent}
 use Rattle.ch_words.specs.Prunable.{PrunesAlone}
-use Rattle.ch_words.specs.Rows.{Gate, answer_over, is_gated, row_seen}
+use Rattle.ch_words.specs.Rows.{Gate, answer_over, is_gated}
 use Rattle.ch_words.specs.Words.{Reading}
 use Rattle.ch_words.proofs.JoinCover as covers
-use Rattle.op_moves.specs.Columns.{column_word}
-use Rattle.op_moves.specs.Values.{word_at}
 use Rattle.op_bloom.specs.declared.sizes.Sizes.{Sizes}
 use Rattle.op_bloom.specs.Policy.{key_of, passes_bloom}
 use Rattle.op_bloom.specs.Filter.{has_side}

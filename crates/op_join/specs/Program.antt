@@ -1,5 +1,5 @@
 -- The program of a join: the Bloom filters, and the verdict.
-use Rattle.std.specs.Prelude.{ℕ, ◌+◌, ◌*◌, List, [], ◌∷◌, ◌++◌}
+use Rattle.std.specs.Prelude.{◌+◌, ◌*◌, List, [], ◌∷◌, ◌++◌}
 use Rattle.ch_ir.specs.declared.program.Operand.TheVariants.{Word}
 use Rattle.ch_ir.specs.declared.program.Binary.TheVariants as binary
 use Rattle.ch_ir.specs.declared.program.Op.{Op}

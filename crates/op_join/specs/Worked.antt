@@ -1,5 +1,5 @@
 -- Worked rows of a join on few Bloom cells: a key at place 3 and a word that is printed.
-use Rattle.std.specs.Prelude.{◌≡◌, ℕ, ℤ, pos, Bool, true, false, Option, Some, List, [], ◌∷◌, ◌++◌, map}
+use Rattle.std.specs.Prelude.{◌≡◌, ℕ, pos, Bool, true, false, Option, Some, List, [], ◌∷◌, ◌++◌, map}
 use Rattle.ch_cover.specs.Rows.{Row}
 use Rattle.ch_ir.specs.Machine.{cleared, verdicts}
 use Rattle.ch_verdicts.specs.Agrees.{judged}

@@ -1,4 +1,4 @@
-use Rattle.std.proofs.Common.{◌≡◌, ℕ, ◌+◌, Bool, true, List, map, sym, ◌∙◌, ap, ap₂, subst, arith}
+use Rattle.std.proofs.Common.{◌≡◌, ℕ, ◌+◌, Bool, List, ◌∙◌, ap, ap₂, arith}
 use Rattle.std.specs.List.{list_all}
 use Rattle.ch_ir.specs.declared.setting.Setting.TheVariants.{Ops, SkylinePoints}
 use Rattle.op_skyline.specs.Fine.{is_place}

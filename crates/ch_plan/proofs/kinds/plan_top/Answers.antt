@@ -1,4 +1,4 @@
-use Rattle.std.proofs.Common.{◌<◌, arith}
+use Rattle.std.proofs.Common.{arith}
 use Rattle.ch_ir.specs.declared.setting.Setting.TheVariants.{Ops, TopGap, TopSteps}
 use Rattle.ch_plan.proofs.Placed.{placed, shorter}
 use Rattle.ch_plan.proofs.kinds.plan_top.Goals as goal

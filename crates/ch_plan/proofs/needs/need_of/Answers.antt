@@ -1,4 +1,4 @@
-use Rattle.std.proofs.Common.{◌≡◌, ◌≤◌, ◌+◌, ◌*◌, ◌∙◌, ap, subst, sym, arith}
+use Rattle.std.proofs.Common.{◌+◌, ap, subst, arith}
 use Rattle.ch_ir.specs.declared.setting.Setting.TheVariants.{DistinctRows, GroupRows}
 use Rattle.ch_pred.specs.Named.{printed_cols}
 use Rattle.ch_plan.specs.Kinds.{IsPlannable}
@@ -44,3 +44,8 @@ pub need_with-requires-in-Group-clause-keys : goal.need_with-requires-in-Group-c
 need_with-requires-in-Group-clause-keys c =
     let b = c.args.bound.now in
     counted_few b c.in-Group.keys _ c.count_different-keys.result c.count_different-keys.ensures c.as_slice-in-Group.ensures c.requires.few ((subst (IsPlannable b) c.in-Group.is c.requires.kind).0)
+
+pub need_with-requires-in-Having-clause-keys : goal.need_with-requires-in-Having-clause-keys
+need_with-requires-in-Having-clause-keys c =
+    let b = c.args.bound.now in
+    counted_few b c.in-Having.keys _ c.count_different-keys-in-Having.result c.count_different-keys-in-Having.ensures c.as_slice-in-Having.ensures c.requires.few ((subst (IsPlannable b) c.in-Having.is c.requires.kind).0)

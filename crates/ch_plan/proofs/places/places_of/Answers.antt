@@ -1,4 +1,4 @@
-use Rattle.std.proofs.Common.{◌≤◌, false, get_or, length, arith}
+use Rattle.std.proofs.Common.{false, get_or, arith}
 use Rattle.ch_pred.specs.declared.bound.Dim.{Dim}
 use Rattle.ch_plan.proofs.Placed.{In-at, shorter}
 use Rattle.ch_plan.proofs.places.places_of.Goals as goal
