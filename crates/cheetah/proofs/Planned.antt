@@ -63,6 +63,9 @@ filter_planned (kind.Distinct o) b profile e is = absurd (no_true (subst (λ s. 
 filter_planned (kind.Group o) b profile e is = absurd (no_true (subst (λ s. is_own_kind (kind.Group o) s ≡ true) e is.own))
 filter_planned (kind.Top o) b profile e is = absurd (no_true (subst (λ s. is_own_kind (kind.Top o) s ≡ true) e is.own))
 filter_planned (kind.Skyline o) b profile e is = absurd (no_true (subst (λ s. is_own_kind (kind.Skyline o) s ≡ true) e is.own))
+filter_planned (kind.Having o) b profile e is = absurd (no_true (subst (λ s. is_own_kind (kind.Having o) s ≡ true) e is.own))
+filter_planned (kind.Join o) b profile e is = absurd (no_true (subst (λ s. is_own_kind (kind.Join o) s ≡ true) e is.own))
+filter_planned (kind.Semi o) b profile e is = absurd (no_true (subst (λ s. is_own_kind (kind.Semi o) s ≡ true) e is.own))
 
 module _ {E : Type 0} (b : Bound) (profile : Profile) (table : TableValue) where
   pub printed_comes : (k : PlanKind) (p : Program) (judged : Result Outcome E) → p ≡ kind_program k → b.shape ≡ shape.Filter → IsPlanOf k b profile → IfOk judged (λ outcome. outcome ≡ answered (program_text p))
