@@ -5,7 +5,8 @@ use Rattle.std.specs.List.{list_any}
 use Rattle.std.proofs.lemmas.Bool.{cases_eq, eq-eqb, ne_eqb, or_parts}
 use Rattle.ch_lists.specs.Members.{In, Each}
 use Rattle.ch_pred.specs.declared.pred.Col.{Col}
-use Rattle.ch_places.specs.Different.{different, is_same_col}
+use Rattle.ch_places.specs.Different.{different, inserted, is_same_col}
+use Rattle.ch_places.proofs.Kept.{length_inserted}
 
 abbrev removed : ℕ → List ℕ → List ℕ
 removed at [] = []
@@ -49,12 +50,13 @@ few_different [] xs h = omega arith
 few_different (c ∷ cols) xs h = go (list_any (is_same_col c) cols) refl (few_different cols xs (λ d i. h d (inr i))) (λ ys k. few_different cols ys k)
   where
     go : (t : Bool) → list_any (is_same_col c) cols ≡ t → length (different cols) ≤ length xs → ((ys : List ℕ) → AreAmong ys cols → length (different cols) ≤ length ys)
-        → length (if t then different cols else c ∷ different cols) ≤ length xs
+        → length (if t then different cols else inserted c (different cols)) ≤ length xs
     go true e ih more = ih
     go false e ih more =
         let first = h c (inl refl) in
         let rest = more (removed c.at xs) (λ d i. let k = h d (inr i) in (k.0, in_removed c.at d.at xs k.1 (apart c d (first.0 ∙ sym k.0) (none_same c d cols e i)))) in
         let long = removed_long c.at xs first.1 in
+        let more_by_one = length_inserted c (different cols) in
         omega arith
 
 -- with one table a carried column is of the first side

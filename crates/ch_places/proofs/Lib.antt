@@ -1,3 +1,4 @@
 pub mod Kept
 pub mod Fits
 pub mod Few
+pub mod Counted

@@ -1,10 +1,10 @@
 ghost use Rattle.std.specs.Prelude.{◌≡◌, ◌≤◌, ℕ, length, map, IfOk};
-ghost use Rattle.std.specs.List.{list_any};
+ghost use Rattle.std.specs.List.{insert, list_any};
 ghost use Rattle.ch_lists.specs.Members.{Each};
 ghost use Rattle.ch_pred.specs.Named.{printed_cols};
 ghost use Rattle.ch_pred.specs.Sound.{IsCarried, carried_of};
 ghost use Rattle.op_moves.specs.Columns.{place_of};
-ghost use Rattle.ch_places.specs.Different.{different, is_same_col};
+ghost use Rattle.ch_places.specs.Different.{different, inserted, is_same_col};
 
 use crate::place::place_of;
 use ch_cells::{Listed, Memory};
@@ -89,17 +89,44 @@ pub fn printed_cols(alloc: Global, items: &[Printed]) -> Result<Listed<Col>, Mem
     Ok(cols)
 }
 
-/// The places of the different columns.
+/// How many columns at the head of an ascending list stand before another.
+fn count_before(col: Col, ascending: &[Col]) -> usize
+    ensures within { result ≤ length ascending.now }
+    ensures insert { insert ascending.now result col ≡ inserted col ascending.now }
+{
+    let mut count = 0;
+    for other in ascending {
+        if col.at < other.at {
+            return count;
+        }
+        count += 1;
+    }
+    count
+}
+
+/// The different columns, ascending by their places in the header.
+fn different(alloc: Global, cols: &[Col]) -> Result<Vec<Col>, Memory>
+    ensures { IfOk result (λ ascending. ascending.items ≡ different cols.now) }
+{
+    let mut ascending = Vec::new(alloc);
+    for at in (0..cols.len()).rev() {
+        let col = cols[at];
+        if !stands_in(col, &cols[at + 1..]) {
+            ascending.insert(count_before(col, &ascending), col)?;
+        }
+    }
+    Ok(ascending)
+}
+
+/// The places of the different columns, ascending as they do in the header.
 pub fn different_places(alloc: Global, bound: &Bound, cols: &[Col]) -> Result<Listed<u32>, Memory>
     requires carried { Each (λ c. IsCarried bound.now c.side c.at) cols.now }
     requires few { (side : ℕ) → length (carried_of bound.now side) ≤ 16 }
     ensures { IfOk result (λ places. places ≡ map (place_of bound.now) (different cols.now)) }
 {
     let mut places = Listed::new(alloc);
-    for at in 0..cols.len() {
-        if !stands_in(cols[at], &cols[at + 1..]) {
-            places.push(place_of(bound, cols[at]))?;
-        }
+    for col in &different(alloc, cols)? {
+        places.push(place_of(bound, *col))?;
     }
     Ok(places)
 }

@@ -11,28 +11,23 @@ use Rattle.ch_places.proofs.Fits.{place_fits}
 use Rattle.ch_places.proofs.Kept.{places_only, places_read}
 use Rattle.op_moves.specs.Columns.{place_of}
 use Rattle.op_having.specs.Fine.{is_value_place}
+use Rattle.op_having.specs.Policy.{prunes}
 use Rattle.op_having.specs.Program.{having_need}
 use Rattle.op_having.specs.Serves.{HavingServes, IsSumPlace}
 use Rattle.op_having.specs.declared.having.HavingOp.{HavingOp}
 use Rattle.op_having.specs.declared.sizes.Sizes.{Sizes}
-use Rattle.ch_plan.specs.Kinds.{IsPlanOf, IsSumCarried, is_own_kind, sum_place}
+use Rattle.ch_plan.specs.Kinds.{IsPlanOf, IsSumCarried, is_own_kind}
 use Rattle.ch_plan.specs.Needs.{greatest_length, need_of, plan_refusal}
+use Rattle.ch_plan.specs.Policy.{having_sizes, passes_of, sum_by}
 use Rattle.ch_plan.specs.declared.kind.PlanKind.TheVariants as kind
 use Rattle.ch_plan.proofs.KeyPlans.{key_of}
-use Rattle.ch_plan.proofs.KindPlans.{shape_need}
+use Rattle.ch_plan.proofs.KindPlans.{shape_need, shape_policy}
 use Rattle.ch_plan.proofs.Placed.{shorter}
 
 abbrev pub having_of : Bound → Profile → List Col → Option Col → ℤ → Sizes
-having_of b profile keys sum above = record {
-  width = greatest_length b.carried + 3;
-  hashes = profile.sketch_hashes;
-  cells = profile.sketch_cells;
-  keys = key_of b keys;
-  value = sum_place b sum;
-  above = above;
-}
+having_of b profile keys sum above = having_sizes b.carried profile keys sum above
 
-sum_stands : (b : Bound) (sum : Option Col) → IsSumPlace b (sum_place b sum) sum
+sum_stands : (b : Bound) (sum : Option Col) → IsSumPlace b (sum_by b.carried sum) sum
 sum_stands b None = tt
 sum_stands b (Some c) = refl
 
@@ -47,6 +42,8 @@ pub having_plan : (b : Bound) (profile : Profile) (keys : List Col) (sum : Optio
     → o.sizes ≡ having_of b profile keys sum above → o.ops ≡ profile.ops → plan_refusal (need_of b profile) profile ≡ None → IsPlanOf (kind.Having o) b profile
 having_plan b profile keys sum above o e sizes ops within = record {
   own = ap (is_own_kind (kind.Having o)) e;
+  policy = ap prunes sizes ∙ sym (ap (shape_policy b profile) e);
+  times = sym (ap passes_of e);
   needs = ap having_need sizes ∙ having_needs b profile keys sum above e;
   most = ops;
   within = within;
@@ -55,7 +52,7 @@ having_plan b profile keys sum above o e sizes ops within = record {
 }
 
 -- the place of what is summed is one of the row's
-pub sum_fits : (b : Bound) (sum : Option Col) (width : ℕ) (value : Option ℕ) → width ≡ greatest_length b.carried + 3 → value ≡ sum_place b sum → IsSumCarried b sum → is_value_place width value ≡ true
+pub sum_fits : (b : Bound) (sum : Option Col) (width : ℕ) (value : Option ℕ) → width ≡ greatest_length b.carried + 3 → value ≡ sum_by b.carried sum → IsSumCarried b sum → is_value_place width value ≡ true
 sum_fits b None width value w v h = ap (is_value_place width) v
 sum_fits b (Some c) width value w v h =
     ap₂ is_value_place w v ∙ place_fits b (greatest_length b.carried + 3) (λ side. let k = shorter b.carried side in omega arith) c h
@@ -63,7 +60,7 @@ sum_fits b (Some c) width value w v h =
 -- an operator of the sizes that were found
 pub having_fits : (b : Bound) (profile : Profile) (keys : List Col) (sum : Option Col) (above : ℤ) (o : HavingOp) (width : ℕ) (key : List ℕ) (value : Option ℕ) (least : ℤ)
     → o.sizes ≡ record { width = width; hashes = profile.sketch_hashes; cells = profile.sketch_cells; keys = key; value = value; above = least }
-    → width ≡ greatest_length b.carried + 3 → key ≡ key_of b keys → value ≡ sum_place b sum → least ≡ above
+    → width ≡ greatest_length b.carried + 3 → key ≡ key_of b keys → value ≡ sum_by b.carried sum → least ≡ above
     → b.shape ≡ shape.Having keys sum above → o.ops ≡ profile.ops → plan_refusal (need_of b profile) profile ≡ None → IsPlanOf (kind.Having o) b profile
 having_fits b profile keys sum above o width key value least sizes w k v l e ops within =
     let made : ℕ → List ℕ → Option ℕ → ℤ → Sizes = λ n ks p z. record { width = n; hashes = profile.sketch_hashes; cells = profile.sketch_cells; keys = ks; value = p; above = z } in

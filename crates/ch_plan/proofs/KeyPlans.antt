@@ -18,19 +18,21 @@ use Rattle.op_moves.specs.Columns.{place_of}
 use Rattle.op_moves.specs.Values.{is_place}
 use Rattle.op_distinct.specs.Program.{distinct_need}
 use Rattle.op_distinct.specs.Shown as distinct
-use Rattle.op_distinct.specs.Sizes as distinct_sizes
+use Rattle.op_distinct.specs.Sizes as distinct_fit
 use Rattle.op_distinct.specs.declared.distinct.Distinct.{Distinct}
-use Rattle.op_distinct.specs.Serving.{DistinctServes}
+use Rattle.op_distinct.specs.Serving.{DistinctServes, distinct_policy}
+use Rattle.op_group.specs.Policy.{group_policy}
 use Rattle.op_group.specs.Program.{group_need}
 use Rattle.op_group.specs.Serving.{GroupServes}
 use Rattle.op_group.specs.Shown as group
-use Rattle.op_group.specs.Sizes as group_sizes
+use Rattle.op_group.specs.Sizes as group_fit
 use Rattle.op_group.specs.declared.group.Group.{Group}
 use Rattle.ch_plan.specs.Kinds.{AreKeys, IsPlanOf, is_own_kind}
 use Rattle.ch_plan.specs.Needs.{greatest_length, need_of, plan_refusal}
+use Rattle.ch_plan.specs.Policy.{distinct_sizes, group_sizes, passes_of}
 use Rattle.ch_plan.specs.Ranged.{IsRanged}
 use Rattle.ch_plan.specs.declared.kind.PlanKind.TheVariants as kind
-use Rattle.ch_plan.proofs.KindPlans.{shape_need}
+use Rattle.ch_plan.proofs.KindPlans.{shape_need, shape_policy}
 use Rattle.ch_plan.proofs.Placed.{shorter}
 
 -- the places of the different ones of some columns
@@ -70,10 +72,10 @@ key_few b cols few keys = let e = length-map (different cols) (place_of b) in le
 
 -- DISTINCT
 
-abbrev pub distinct_of : Bound → Profile → distinct_sizes.Sizes
-distinct_of b profile = record { width = greatest_length b.carried + 3; rows = profile.distinct_rows; cols = profile.distinct_cols; key = key_of b (printed_cols b.printed) }
+abbrev pub distinct_of : Bound → Profile → distinct_fit.Sizes
+distinct_of b profile = distinct_sizes b.carried profile (printed_cols b.printed)
 
-pub distinct_fine : (b : Bound) (profile : Profile) → greatest_length b.carried ≤ 16 → IsRanged profile → AreKeys b (printed_cols b.printed) → distinct_sizes.IsFine (distinct_of b profile)
+pub distinct_fine : (b : Bound) (profile : Profile) → greatest_length b.carried ≤ 16 → IsRanged profile → AreKeys b (printed_cols b.printed) → distinct_fit.IsFine (distinct_of b profile)
 distinct_fine b profile few ranged keys = record {
   wide = omega arith;
   narrow = omega arith;
@@ -93,26 +95,21 @@ pub distinct_plan : (b : Bound) (profile : Profile) (o : Distinct) → b.shape �
     → o.ops ≡ profile.ops → plan_refusal (need_of b profile) profile ≡ None → IsPlanOf (kind.Distinct o) b profile
 distinct_plan b profile o e sizes ops within = record {
   own = ap (is_own_kind (kind.Distinct o)) e;
+  policy = ap distinct_policy sizes ∙ sym (ap (shape_policy b profile) e);
+  times = sym (ap passes_of e);
   needs = ap distinct_need sizes ∙ distinct_needs b profile e;
   most = ops;
   within = within;
-  serves = λ d gate fits. subst (λ (s : distinct_sizes.Sizes). DistinctServes s d b gate) (sym sizes) (record { own = e; fits = fits; read = places_read b (printed_cols b.printed) });
+  serves = λ d gate fits. subst (λ (s : distinct_fit.Sizes). DistinctServes s d b gate) (sym sizes) (record { own = e; fits = fits; read = places_read b (printed_cols b.printed) });
 }
 
 -- GROUP BY
 
-abbrev pub group_of : Bound → Profile → List Col → Bool → Col → group_sizes.Sizes
-group_of b profile keys is_max value = record {
-  width = greatest_length b.carried + 3;
-  rows = profile.group_rows;
-  cols = profile.group_cols;
-  key = key_of b keys;
-  value = place_of b value;
-  is_max = is_max;
-}
+abbrev pub group_of : Bound → Profile → List Col → Bool → Col → group_fit.Sizes
+group_of b profile keys is_max value = group_sizes b.carried profile keys is_max value
 
 pub group_fine : (b : Bound) (profile : Profile) (keys : List Col) (is_max : Bool) (value : Col) → greatest_length b.carried ≤ 16 → IsRanged profile → AreKeys b keys → IsCarried b value.side value.at
-    → group_sizes.IsFine (group_of b profile keys is_max value)
+    → group_fit.IsFine (group_of b profile keys is_max value)
 group_fine b profile keys is_max value few ranged are carried = record {
   wide = omega arith;
   narrow = omega arith;
@@ -134,9 +131,11 @@ pub group_plan : (b : Bound) (profile : Profile) (keys : List Col) (is_max : Boo
     → o.ops ≡ profile.ops → plan_refusal (need_of b profile) profile ≡ None → IsPlanOf (kind.Group o) b profile
 group_plan b profile keys is_max value o e sizes ops within = record {
   own = ap (is_own_kind (kind.Group o)) e;
+  policy = ap group_policy sizes ∙ sym (ap (shape_policy b profile) e);
+  times = sym (ap passes_of e);
   needs = ap group_need sizes ∙ group_needs b profile keys is_max value e;
   most = ops;
   within = within;
-  serves = λ d gate fits. subst (λ (s : group_sizes.Sizes). GroupServes s d b gate) (sym sizes)
+  serves = λ d gate fits. subst (λ (s : group_fit.Sizes). GroupServes s d b gate) (sym sizes)
       (record { keys = keys; value = value; own = e; fits = fits; read = places_read b keys; stands = refl });
 }

@@ -8,3 +8,4 @@ pub mod KindPlans
 pub mod KeyPlans
 pub mod TwoPassPlans
 pub mod HavingPlans
+pub mod Plannable

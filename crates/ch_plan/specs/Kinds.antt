@@ -17,7 +17,6 @@ use Rattle.ch_words.specs.Words.{Reading, asked_of_words}
 use Rattle.ch_prune.specs.declared.operator.Need.{Need}
 use Rattle.ch_prune.specs.Filtering.{FilterServes, filter_need, filter_program}
 use Rattle.ch_prune.specs.Sent.{is_cell_word, is_sent}
-use Rattle.op_moves.specs.Columns.{place_of}
 use Rattle.op_having.specs.Policy as having_policy
 use Rattle.op_having.specs.Program as having_program
 use Rattle.op_having.specs.Serves.{HavingServes}
@@ -47,6 +46,7 @@ use Rattle.ch_pred.specs.declared.pred.Col.{Col}
 use Rattle.ch_plan.specs.declared.kind.PlanKind.{PlanKind}
 use Rattle.ch_plan.specs.declared.kind.PlanKind.TheVariants as kind
 use Rattle.ch_plan.specs.Needs.{need_of, plan_refusal}
+use Rattle.ch_plan.specs.Policy.{passes_of, policy_of}
 
 abbrev pub kind_policy : PlanKind → Policy
 kind_policy (kind.Filter o) = by_bit
@@ -132,11 +132,6 @@ abbrev pub IsSumCarried : Bound → Option Col → Type 0
 IsSumCarried b None = Unit {0}
 IsSumCarried b (Some c) = IsCarried b c.side c.at
 
--- the place of what is summed
-abbrev pub sum_place : Bound → Option Col → Option ℕ
-sum_place b None = None
-sum_place b (Some c) = Some (place_of b c)
-
 -- what the operator of a kind asks of a query: the columns that it reads are carried, and its numbers are in their ranges
 abbrev pub IsPlannable : Bound → Shape → Type 0
 IsPlannable b shape.Filter = Unit {0}
@@ -147,6 +142,17 @@ IsPlannable b (shape.Having keys sum above) = AreKeys b keys × IsSumCarried b s
 IsPlannable b (shape.Join left right) = IsCarried b left.side left.at × IsCarried b right.side right.at × (left.side ≡ 0) × (right.side ≡ 1)
 IsPlannable b (shape.Skyline dims) = Each (λ k. IsCarried b k.col.side k.col.at) dims × (1 ≤ length dims) × (length dims ≤ 4)
 IsPlannable b (shape.Semi key inner) = IsCarried b key.side key.at × IsCarried b inner.side inner.at
+
+-- the numbers that a query writes out are in their ranges
+abbrev pub NumbersFit : Shape → Type 0
+NumbersFit shape.Filter = Unit {0}
+NumbersFit shape.Distinct = Unit {0}
+NumbersFit (shape.Top by descending limit) = 1 ≤ limit
+NumbersFit (shape.Group keys max value) = Unit {0}
+NumbersFit (shape.Having keys sum above) = is_cell_word above ≡ true
+NumbersFit (shape.Join left right) = Unit {0}
+NumbersFit (shape.Skyline dims) = (1 ≤ length dims) × (length dims ≤ 4)
+NumbersFit (shape.Semi key inner) = Unit {0}
 
 -- the law of a policy of so many passes
 pub record Covers {A : Type 0} (passes : ℕ) (is_row : Row → Bool) (prunes : Policy) (answer : List Row → A) : Type 0 where
@@ -159,10 +165,12 @@ pub record Holds (k : PlanKind) (d : Reading) (b : Bound) (gate : Gate) : Type 0
   pub agrees : Agrees (is_sent gate b) (kind_program k) None (cleared (kind_program k).arrays) (kind_policy k)
   pub width : (kind_program k).width ≡ (kind_needs k).width
 
--- An operator that a query may be planned by: it is of the query's kind, its needs are the query's, within the profile, and
--- it serves the query wherever the rows' bits fit it
+-- An operator that a query may be planned by: it is of the query's kind, its policy, its passes and its needs are the
+-- query's, the needs are within the profile, and it serves the query wherever the rows' bits fit it
 pub record IsPlanOf (k : PlanKind) (b : Bound) (profile : Profile) : Type 0 where
   pub own : is_own_kind k b.shape ≡ true
+  pub policy : kind_policy k ≡ policy_of b profile
+  pub times : kind_times k ≡ passes_of b.shape
   pub needs : kind_needs k ≡ need_of b profile
   pub most : kind_most k ≡ profile.ops
   pub within : plan_refusal (need_of b profile) profile ≡ None

@@ -1,4 +1,5 @@
 pub mod Needs
 pub mod Ranged
+pub mod Policy
 pub mod Kinds
 pub mod Worked

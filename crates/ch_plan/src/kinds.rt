@@ -6,7 +6,8 @@ ghost use Rattle.ch_pred.specs.declared.bound.Shape.TheVariants as shape;
 ghost use Rattle.ch_plan.specs.Needs.{greatest_length, need_of, plan_refusal};
 ghost use Rattle.ch_plan.specs.Ranged.{IsRanged};
 ghost use Rattle.ch_pred.specs.Named.{printed_cols};
-ghost use Rattle.ch_plan.specs.Kinds.{AreKeys, IsPlanOf, IsPlannable, IsSumCarried, sum_place};
+ghost use Rattle.ch_plan.specs.Kinds.{AreKeys, IsPlanOf, IsPlannable, IsSumCarried};
+ghost use Rattle.ch_plan.specs.Policy.{sum_by};
 
 use crate::kind::PlanKind;
 use crate::places::{directions_of, places_of, width_of};
@@ -161,7 +162,7 @@ fn plan_group(
 fn sum_place(bound: &Bound, sum: Option<Col>) -> Option<u32>
     requires carried { IsSumCarried bound.now sum }
     requires few { greatest_length bound.now.carried ≤ 16 }
-    ensures { result ≡ sum_place bound.now sum }
+    ensures { result ≡ sum_by bound.now.carried sum }
 {
     match sum {
         Some(col) => Some(place_of(bound, col)),

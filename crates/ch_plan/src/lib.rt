@@ -13,5 +13,8 @@ mod tests;
 
 pub use error::PlanError;
 pub use kind::PlanKind;
-pub use laws::{planned_programs_pass, plans_hold, profiles_are_ranged, worked};
+pub use laws::{
+    planned_programs_pass, plans_hold, policies_know_no_filter, profiles_are_ranged,
+    sound_queries_are_plannable, worked,
+};
 pub use planned::{Planned, plan};

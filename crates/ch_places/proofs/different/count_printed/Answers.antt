@@ -1,0 +1,9 @@
+use Rattle.std.proofs.Common.{◌≡◌, ◌∙◌}
+use Rattle.std.proofs.lemmas.Grind.{common_steps}
+use Rattle.std.proofs.Common.{arith}
+use Rattle.ch_pred.specs.Named.{printed_cols}
+use Rattle.ch_places.proofs.Counted.{counted, counted_length}
+use Rattle.ch_places.proofs.different.count_printed.Goals as goal
+
+pub returns : goal.returns
+returns c = let all : c.loop-at.count ≡ counted (printed_cols c.args.items.now) = grind (arith, common_steps) in all ∙ counted_length (printed_cols c.args.items.now)
