@@ -9,7 +9,7 @@ use Rattle.ch_schedule.specs.declared.read.Stop.{Stop}
 use Rattle.ch_schedule.specs.declared.read.Stop.TheVariants as stop
 use Rattle.ch_schedule.specs.Bad.{Refuses, Stops, refusal_of, Adds, said_in, steps_of, is_drain, steps_in, has_drain, line_why, why_at}
 
-steps_append : (xs ys : List (List ℕ)) → steps_in (xs ++ ys) ≡ steps_in xs ++ steps_in ys
+pub steps_append : (xs ys : List (List ℕ)) → steps_in (xs ++ ys) ≡ steps_in xs ++ steps_in ys
 steps_append [] ys = refl
 steps_append (x ∷ xs) ys = ap (λ (z : List Step). steps_of (said_in x) ++ z) (steps_append xs ys) ∙ sym (append_assoc (steps_of (said_in x)) (steps_in xs) (steps_in ys))
 

@@ -10,6 +10,6 @@ mod step;
 mod tests;
 
 pub use field::{natural, read_bytes};
-pub use laws::every_event_is_a_step;
+pub use laws::{every_event_is_a_step, read_schedules_are_within_limits};
 pub use read::{ScheduleError, ScheduleWhy, read_schedule};
 pub use step::{How, Link, Schedule, Step};
