@@ -1,0 +1,118 @@
+ghost use Rattle.std.specs.Prelude.{◌≡◌, ◌≤◌, ◌^◌, IfSome, map, string_bytes};
+ghost use Rattle.ch_generated.specs.Request as spec;
+ghost use Rattle.ch_generated.specs.Request.{natural_of, positive, request_of, request_with, rows_of, seed_of};
+
+/// What is asked of the tables.
+#[derive(Clone, Copy, Debug, PartialEq, Eq)]
+pub enum InputKind {
+    Filter,
+    Distinct,
+    Top,
+    Group,
+    Having,
+    Join,
+    Skyline,
+}
+
+/// Which inputs are made.
+#[derive(Clone, Copy, Debug, PartialEq, Eq)]
+pub struct Request {
+    pub seed: u64,
+    /// The rows of table `t`, from 1 to 1,000,000.
+    pub rows: u32,
+    pub kind: InputKind,
+}
+
+const MOST_ROWS: u64 = 1_000_000;
+
+/// The number, at most `most`, that digits spell with no needless zero in front.
+fn natural(most: u64, digits: &[u8]) -> Option<u64>
+    requires { 9 ≤ most }
+    ensures value { result ≡ natural_of most digits.now }
+    ensures small { IfSome result (λ n. n ≤ most) }
+{
+    match digits {
+        [] => return None,
+        [b'0', _, ..] => return None,
+        _ => {}
+    }
+    let mut value: u64 = 0;
+    for digit in digits {
+        if !digit.is_ascii_digit() {
+            return None;
+        }
+        let unit = u64::from(*digit - b'0');
+        if value > (most - unit) / 10 {
+            return None;
+        }
+        value = value * 10 + unit;
+    }
+    Some(value)
+}
+
+#[tactic(auto, unfolding(crate::specs::Request::seed_of))]
+fn seed_in(text: &str) -> Option<u64>
+    ensures { result ≡ seed_of text.now }
+{
+    natural(u64::MAX, text.as_bytes())
+}
+
+/// The number as one of rows, which are not none.
+fn positive(n: u64) -> Option<u32>
+    requires { n ≤ 1000000 }
+    ensures { result ≡ positive n }
+{
+    if n == 0 { None } else { Some(n as u32) }
+}
+
+#[tactic(auto, unfolding(crate::specs::Request::rows_of))]
+fn rows_in(text: &str) -> Option<u32>
+    ensures { result ≡ rows_of text.now }
+{
+    match natural(MOST_ROWS, text.as_bytes()) {
+        Some(n) => positive(n),
+        None => None,
+    }
+}
+
+fn kind_in(word: &str) -> Option<InputKind>
+    ensures { result ≡ spec.kind_of word.now }
+{
+    if word == "filter" {
+        Some(InputKind::Filter)
+    } else if word == "distinct" {
+        Some(InputKind::Distinct)
+    } else if word == "top" {
+        Some(InputKind::Top)
+    } else if word == "group" {
+        Some(InputKind::Group)
+    } else if word == "having" {
+        Some(InputKind::Having)
+    } else if word == "join" {
+        Some(InputKind::Join)
+    } else if word == "skyline" {
+        Some(InputKind::Skyline)
+    } else {
+        None
+    }
+}
+
+fn request_by(seed: &str, rows: &str, kind: &str) -> Option<Request>
+    ensures { result ≡ request_with (seed_of seed.now) (rows_of rows.now) (spec.kind_of kind.now) }
+{
+    let seed = seed_in(seed)?;
+    let rows = rows_in(rows)?;
+    let kind = kind_in(kind)?;
+    Some(Request { seed, rows, kind })
+}
+
+/// What the words ask for. The program's name is the first of them.
+#[tactic(auto, unfolding(crate::specs::Request::request_of))]
+pub fn requested_in(words: &[String]) -> Option<Request>
+    ensures { result ≡ request_of (map string_bytes words.now) }
+{
+    match words {
+        [_, seed, rows, kind] => request_by(seed.as_str(), rows.as_str(), kind.as_str()),
+        _ => None,
+    }
+}
