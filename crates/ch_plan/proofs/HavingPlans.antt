@@ -12,7 +12,7 @@ use Rattle.ch_places.proofs.Kept.{places_only, places_read}
 use Rattle.op_moves.specs.Columns.{place_of}
 use Rattle.op_having.specs.Fine.{is_value_place}
 use Rattle.op_having.specs.Policy.{prunes}
-use Rattle.op_having.specs.Program.{having_need}
+use Rattle.op_having.specs.Program.{having_need, program}
 use Rattle.op_having.specs.Serves.{HavingServes, IsSumPlace}
 use Rattle.op_having.specs.declared.having.HavingOp.{HavingOp}
 use Rattle.op_having.specs.declared.sizes.Sizes.{Sizes}
@@ -21,7 +21,7 @@ use Rattle.ch_plan.specs.Needs.{greatest_length, need_of, plan_refusal}
 use Rattle.ch_plan.specs.Policy.{having_sizes, passes_of, sum_by}
 use Rattle.ch_plan.specs.declared.kind.PlanKind.TheVariants as kind
 use Rattle.ch_plan.proofs.KeyPlans.{key_of}
-use Rattle.ch_plan.proofs.KindPlans.{shape_need, shape_policy}
+use Rattle.ch_plan.proofs.KindPlans.{shape_need, shape_policy, shape_program}
 use Rattle.ch_plan.proofs.Placed.{shorter}
 
 abbrev pub having_of : Bound → Profile → List Col → Option Col → ℤ → Sizes
@@ -43,6 +43,7 @@ pub having_plan : (b : Bound) (profile : Profile) (keys : List Col) (sum : Optio
 having_plan b profile keys sum above o e sizes ops within = record {
   own = ap (is_own_kind (kind.Having o)) e;
   policy = ap prunes sizes ∙ sym (ap (shape_policy b profile) e);
+  program = ap program sizes ∙ sym (ap (shape_program b profile) e);
   times = sym (ap passes_of e);
   needs = ap having_need sizes ∙ having_needs b profile keys sum above e;
   most = ops;

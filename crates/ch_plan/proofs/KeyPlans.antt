@@ -16,13 +16,13 @@ use Rattle.ch_places.proofs.Fits.{place_fits, places_fit}
 use Rattle.ch_places.proofs.Kept.{places_read}
 use Rattle.op_moves.specs.Columns.{place_of}
 use Rattle.op_moves.specs.Values.{is_place}
-use Rattle.op_distinct.specs.Program.{distinct_need}
+use Rattle.op_distinct.specs.Program.{distinct_need, distinct_program}
 use Rattle.op_distinct.specs.Shown as distinct
 use Rattle.op_distinct.specs.Sizes as distinct_fit
 use Rattle.op_distinct.specs.declared.distinct.Distinct.{Distinct}
 use Rattle.op_distinct.specs.Serving.{DistinctServes, distinct_policy}
 use Rattle.op_group.specs.Policy.{group_policy}
-use Rattle.op_group.specs.Program.{group_need}
+use Rattle.op_group.specs.Program.{group_need, group_program}
 use Rattle.op_group.specs.Serving.{GroupServes}
 use Rattle.op_group.specs.Shown as group
 use Rattle.op_group.specs.Sizes as group_fit
@@ -32,7 +32,7 @@ use Rattle.ch_plan.specs.Needs.{greatest_length, need_of, plan_refusal}
 use Rattle.ch_plan.specs.Policy.{distinct_sizes, group_sizes, passes_of}
 use Rattle.ch_plan.specs.Ranged.{IsRanged}
 use Rattle.ch_plan.specs.declared.kind.PlanKind.TheVariants as kind
-use Rattle.ch_plan.proofs.KindPlans.{shape_need, shape_policy}
+use Rattle.ch_plan.proofs.KindPlans.{shape_need, shape_policy, shape_program}
 use Rattle.ch_plan.proofs.Placed.{shorter}
 
 -- the places of the different ones of some columns
@@ -96,6 +96,7 @@ pub distinct_plan : (b : Bound) (profile : Profile) (o : Distinct) → b.shape �
 distinct_plan b profile o e sizes ops within = record {
   own = ap (is_own_kind (kind.Distinct o)) e;
   policy = ap distinct_policy sizes ∙ sym (ap (shape_policy b profile) e);
+  program = ap distinct_program sizes ∙ sym (ap (shape_program b profile) e);
   times = sym (ap passes_of e);
   needs = ap distinct_need sizes ∙ distinct_needs b profile e;
   most = ops;
@@ -132,6 +133,7 @@ pub group_plan : (b : Bound) (profile : Profile) (keys : List Col) (is_max : Boo
 group_plan b profile keys is_max value o e sizes ops within = record {
   own = ap (is_own_kind (kind.Group o)) e;
   policy = ap group_policy sizes ∙ sym (ap (shape_policy b profile) e);
+  program = ap group_program sizes ∙ sym (ap (shape_program b profile) e);
   times = sym (ap passes_of e);
   needs = ap group_need sizes ∙ group_needs b profile keys is_max value e;
   most = ops;

@@ -2,6 +2,7 @@
 use Rattle.std.proofs.Common.{◌≡◌, ℕ, ◌+◌, ◌*◌, Bool, List, refl, sym, ◌∙◌, add-zero, ap, None, subst}
 use Rattle.std.proofs.lemmas.List.{length-map}
 use Rattle.ch_ir.specs.declared.profile.Profile.{Profile}
+use Rattle.ch_ir.specs.declared.program.Program.{Program}
 use Rattle.ch_pred.specs.Sound.{has_one_table}
 use Rattle.ch_pred.specs.declared.bound.Bound.{Bound}
 use Rattle.ch_pred.specs.declared.bound.Dim.{Dim}
@@ -9,15 +10,17 @@ use Rattle.ch_pred.specs.declared.bound.Shape.{Shape}
 use Rattle.ch_pred.specs.declared.bound.Shape.TheVariants as shape
 use Rattle.ch_pred.specs.declared.pred.Col.{Col}
 use Rattle.ch_cover.specs.Rows.{Policy}
-use Rattle.ch_prune.specs.Filtering.{filter_need}
+use Rattle.ch_prune.specs.Filtering.{filter_need, filter_program}
 use Rattle.ch_prune.specs.declared.filter.Filter.{Filter}
 use Rattle.ch_prune.specs.declared.operator.Need.{Need}
+use Rattle.op_topn.specs.Emitted.{top_program}
 use Rattle.op_topn.specs.Order.{top_need}
 use Rattle.op_topn.specs.Policy.{top_policy}
 use Rattle.op_topn.specs.Serves.{TopServes}
 use Rattle.op_topn.specs.declared.sizes.Sizes as top
 use Rattle.op_topn.specs.declared.topn.TopN.{TopN}
 use Rattle.op_moves.specs.Columns.{place_of}
+use Rattle.op_skyline.specs.Emitted.{skyline_program}
 use Rattle.op_skyline.specs.Order.{skyline_need}
 use Rattle.op_skyline.specs.Serves.{DimsStandAt}
 use Rattle.op_skyline.specs.Policy.{skyline_policy}
@@ -25,7 +28,7 @@ use Rattle.op_skyline.specs.declared.sizes.Sizes as skyline
 use Rattle.op_skyline.specs.declared.skyline.Skyline.{Skyline}
 use Rattle.ch_plan.specs.Kinds.{IsPlanOf, is_own_kind}
 use Rattle.ch_plan.specs.Needs.{cells_for, greatest_length, keys_of, need_of, plan_refusal, stages_of}
-use Rattle.ch_plan.specs.Policy.{passes_of, policy_by, skyline_sizes, top_sizes}
+use Rattle.ch_plan.specs.Policy.{passes_of, policy_by, program_by, skyline_sizes, top_sizes}
 use Rattle.ch_plan.specs.declared.kind.PlanKind.TheVariants as kind
 use Rattle.ch_plan.proofs.Placed.{dims_stand}
 
@@ -41,6 +44,10 @@ shape_need b profile s =
 abbrev pub shape_policy : Bound → Profile → Shape → Policy
 shape_policy b profile s = policy_by b.carried b.printed profile s
 
+-- the program of a query of some shape
+abbrev pub shape_program : Bound → Profile → Shape → Program
+shape_program b profile s = program_by b.carried b.printed profile s
+
 -- FILTER
 
 filter_needs : (b : Bound) (profile : Profile) → filter_need (greatest_length b.carried + 3) ≡ shape_need b profile shape.Filter
@@ -53,6 +60,7 @@ pub filter_plan : (b : Bound) (profile : Profile) (o : Filter) → b.shape ≡ s
 filter_plan b profile o e width ops within = record {
   own = ap (is_own_kind (kind.Filter o)) e;
   policy = sym (ap (shape_policy b profile) e);
+  program = ap filter_program width ∙ sym (ap (shape_program b profile) e);
   times = sym (ap passes_of e);
   needs = ap filter_need width ∙ (filter_needs b profile ∙ sym (ap (shape_need b profile) e));
   most = ops;
@@ -70,6 +78,7 @@ pub top_plan : (b : Bound) (profile : Profile) (by : Col) (descending : Bool) (l
 top_plan b profile by descending limit o e sizes ops within = record {
   own = ap (is_own_kind (kind.Top o)) e;
   policy = ap top_policy sizes ∙ sym (ap (shape_policy b profile) e);
+  program = ap top_program sizes ∙ sym (ap (shape_program b profile) e);
   times = sym (ap passes_of e);
   needs = ap top_need sizes ∙ sym (ap (shape_need b profile) e);
   most = ops;
@@ -93,6 +102,7 @@ pub skyline_plan : (b : Bound) (profile : Profile) (dims : List Dim) (o : Skylin
 skyline_plan b profile dims o e sizes ops within = record {
   own = ap (is_own_kind (kind.Skyline o)) e;
   policy = ap skyline_policy sizes ∙ sym (ap (shape_policy b profile) e);
+  program = ap skyline_program sizes ∙ sym (ap (shape_program b profile) e);
   times = sym (ap passes_of e);
   needs = ap skyline_need sizes ∙ skyline_needs b profile dims e;
   most = ops;

@@ -6,9 +6,11 @@ use Rattle.ch_pred.specs.declared.bound.Shape.TheVariants as shape
 use Rattle.ch_pred.specs.declared.pred.Col.{Col}
 use Rattle.op_bloom.specs.declared.sizes.Sizes as filters
 use Rattle.op_join.specs.Policy as join_policy
+use Rattle.op_join.specs.Program as join_program
 use Rattle.op_join.specs.Program.{join_need}
 use Rattle.op_join.specs.declared.join.JoinOp.{JoinOp}
 use Rattle.op_semi.specs.Policy as semi_policy
+use Rattle.op_semi.specs.Program as semi_program
 use Rattle.op_semi.specs.Program.{semi_need}
 use Rattle.op_semi.specs.declared.sizes.Sizes as semi
 use Rattle.op_semi.specs.declared.semi.Semi.{Semi}
@@ -16,7 +18,7 @@ use Rattle.ch_plan.specs.Kinds.{IsPlanOf, is_own_kind}
 use Rattle.ch_plan.specs.Needs.{need_of, plan_refusal}
 use Rattle.ch_plan.specs.Policy.{filter_sizes, passes_of, semi_sizes}
 use Rattle.ch_plan.specs.declared.kind.PlanKind.TheVariants as kind
-use Rattle.ch_plan.proofs.KindPlans.{shape_need, shape_policy}
+use Rattle.ch_plan.proofs.KindPlans.{shape_need, shape_policy, shape_program}
 
 -- the sizes of the filters of two key columns
 abbrev pub filters_of : Bound → Profile → Col → Col → filters.Sizes
@@ -27,6 +29,7 @@ pub join_plan : (b : Bound) (profile : Profile) (left right : Col) (o : JoinOp) 
 join_plan b profile left right o e first second sizes ops within = record {
   own = ap (is_own_kind (kind.Join o)) e;
   policy = ap join_policy.prunes sizes ∙ sym (ap (shape_policy b profile) e);
+  program = ap join_program.program sizes ∙ sym (ap (shape_program b profile) e);
   times = sym (ap passes_of e);
   needs = ap join_need sizes ∙ sym (ap (shape_need b profile) e);
   most = ops;
@@ -51,6 +54,7 @@ pub semi_plan : (b : Bound) (profile : Profile) (key inner : Col) (o : Semi) →
 semi_plan b profile key inner o e sizes ops within = record {
   own = ap (is_own_kind (kind.Semi o)) e;
   policy = ap semi_policy.prunes sizes ∙ sym (ap (shape_policy b profile) e);
+  program = ap semi_program.program sizes ∙ sym (ap (shape_program b profile) e);
   times = sym (ap passes_of e);
   needs = ap semi_need sizes ∙ sym (ap (shape_need b profile) e);
   most = ops;

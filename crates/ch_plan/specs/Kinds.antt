@@ -46,7 +46,7 @@ use Rattle.ch_pred.specs.declared.pred.Col.{Col}
 use Rattle.ch_plan.specs.declared.kind.PlanKind.{PlanKind}
 use Rattle.ch_plan.specs.declared.kind.PlanKind.TheVariants as kind
 use Rattle.ch_plan.specs.Needs.{need_of, plan_refusal}
-use Rattle.ch_plan.specs.Policy.{passes_of, policy_of}
+use Rattle.ch_plan.specs.Policy.{passes_of, policy_of, program_of}
 
 abbrev pub kind_policy : PlanKind → Policy
 kind_policy (kind.Filter o) = by_bit
@@ -165,11 +165,12 @@ pub record Holds (k : PlanKind) (d : Reading) (b : Bound) (gate : Gate) : Type 0
   pub agrees : Agrees (is_sent gate b) (kind_program k) None (cleared (kind_program k).arrays) (kind_policy k)
   pub width : (kind_program k).width ≡ (kind_needs k).width
 
--- An operator that a query may be planned by: it is of the query's kind, its policy, its passes and its needs are the
+-- An operator that a query may be planned by: it is of the query's kind, its policy, program, passes and needs are the
 -- query's, the needs are within the profile, and it serves the query wherever the rows' bits fit it
 pub record IsPlanOf (k : PlanKind) (b : Bound) (profile : Profile) : Type 0 where
   pub own : is_own_kind k b.shape ≡ true
   pub policy : kind_policy k ≡ policy_of b profile
+  pub program : kind_program k ≡ program_of b profile
   pub times : kind_times k ≡ passes_of b.shape
   pub needs : kind_needs k ≡ need_of b profile
   pub most : kind_most k ≡ profile.ops

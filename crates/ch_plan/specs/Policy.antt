@@ -1,8 +1,9 @@
--- The policy of a plan and its number of passes, by the query and the profile alone. A query's filter doesn't enter: the bit
+-- The policy of a plan, its program and its number of passes, by the query and the profile alone. A query's filter doesn't enter: the bit
 -- of a row says whether it holds.
 use Rattle.std.specs.Prelude.{ℕ, ◌+◌, ℤ, Bool, List, [], map, slice_index_or, Option, Some, None}
 use Rattle.ch_cover.specs.Rows.{Policy}
 use Rattle.ch_ir.specs.declared.profile.Profile.{Profile}
+use Rattle.ch_ir.specs.declared.program.Program.{Program}
 use Rattle.ch_places.specs.Different.{different}
 use Rattle.ch_pred.specs.Named.{printed_cols}
 use Rattle.ch_pred.specs.Sound.{place_in}
@@ -12,19 +13,27 @@ use Rattle.ch_pred.specs.declared.bound.Printed.{Printed}
 use Rattle.ch_pred.specs.declared.bound.Shape.{Shape}
 use Rattle.ch_pred.specs.declared.bound.Shape.TheVariants as shape
 use Rattle.ch_pred.specs.declared.pred.Col.{Col}
+use Rattle.ch_prune.specs.Filtering.{filter_program}
 use Rattle.ch_words.specs.Policies.{by_bit}
 use Rattle.op_bloom.specs.declared.sizes.Sizes as filters
+use Rattle.op_distinct.specs.Program.{distinct_program}
 use Rattle.op_distinct.specs.Serving.{distinct_policy}
 use Rattle.op_distinct.specs.Sizes as distinct
 use Rattle.op_group.specs.Policy.{group_policy}
+use Rattle.op_group.specs.Program.{group_program}
 use Rattle.op_group.specs.Sizes as group
 use Rattle.op_having.specs.Policy as having_policy
+use Rattle.op_having.specs.Program as having_program
 use Rattle.op_having.specs.declared.sizes.Sizes as having
 use Rattle.op_join.specs.Policy as join_policy
+use Rattle.op_join.specs.Program as join_program
 use Rattle.op_semi.specs.Policy as semi_policy
+use Rattle.op_semi.specs.Program as semi_program
 use Rattle.op_semi.specs.declared.sizes.Sizes as semi
+use Rattle.op_skyline.specs.Emitted.{skyline_program}
 use Rattle.op_skyline.specs.Policy.{skyline_policy}
 use Rattle.op_skyline.specs.declared.sizes.Sizes as skyline
+use Rattle.op_topn.specs.Emitted.{top_program}
 use Rattle.op_topn.specs.Policy.{top_policy}
 use Rattle.op_topn.specs.declared.sizes.Sizes as top
 use Rattle.ch_plan.specs.Needs.{greatest_length}
@@ -119,6 +128,20 @@ policy_by carried printed profile (shape.Semi key inner) = semi_policy.prunes (s
 -- the rows that the plan of a query prunes
 abbrev pub policy_of : Bound → Profile → Policy
 policy_of b profile = policy_by b.carried b.printed profile b.shape
+
+abbrev pub program_by : List (List ℕ) → List Printed → Profile → Shape → Program
+program_by carried printed profile shape.Filter = filter_program (greatest_length carried + 3)
+program_by carried printed profile shape.Distinct = distinct_program (distinct_sizes carried profile (printed_cols printed))
+program_by carried printed profile (shape.Top by descending limit) = top_program (top_sizes carried profile by descending limit)
+program_by carried printed profile (shape.Group keys max value) = group_program (group_sizes carried profile keys max value)
+program_by carried printed profile (shape.Having keys sum above) = having_program.program (having_sizes carried profile keys sum above)
+program_by carried printed profile (shape.Join left right) = join_program.program (filter_sizes carried profile left right)
+program_by carried printed profile (shape.Skyline dims) = skyline_program (skyline_sizes carried profile dims)
+program_by carried printed profile (shape.Semi key inner) = semi_program.program (semi_sizes carried profile key inner)
+
+-- the program that has these verdicts
+abbrev pub program_of : Bound → Profile → Program
+program_of b profile = program_by b.carried b.printed profile b.shape
 
 -- in how many passes it processes the rows
 abbrev pub passes_of : Shape → ℕ
