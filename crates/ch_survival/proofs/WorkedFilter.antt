@@ -57,7 +57,7 @@ pub filter_survives : FilterSurvives
 unfolding row_seen
 filter_survives = record {
   asked = record { sound = sound; ascends = tt; fits = record { sides = refl; cells = cells }; range = range; sums = λ r i. refl };
-  planned = (kind.Filter (record { front = record {}; ops = 64; width = 4; least = omega arith; some = omega arith }), record { own = refl; policy = refl; times = refl; needs = refl; most = refl; within = refl; serves = λ d gate fits. (refl, fits) });
+  planned = (kind.Filter (record { front = record {}; ops = 64; width = 4; least = omega arith; some = omega arith }), record { own = refl; policy = refl; program = refl; times = refl; needs = refl; most = refl; within = refl; serves = λ d gate fits. (refl, fits) });
   rows = rw (plain_of-Compare a cmp.Gt (arg.Value (literal.Number (pos 4)))) refl;
   over_cells = rw (plain_of-Compare a cmp.Gt (arg.Value (literal.Number (pos 4)))) refl;
   without_pruned = rw (plain_of-Compare a cmp.Gt (arg.Value (literal.Number (pos 4)))) refl;
