@@ -1,0 +1,16 @@
+pub mod Packed
+pub mod Packs
+pub mod Worked
+pub mod Moved
+pub mod Rooms
+pub mod Selected
+pub mod SelectedStages
+pub mod Right
+pub mod Shut
+pub mod Plans
+pub mod Joined
+pub mod Steps
+pub mod Lawful
+pub mod LawfulPlans
+pub mod Needs
+pub mod Measured
