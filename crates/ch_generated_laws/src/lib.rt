@@ -1,0 +1,6 @@
+//! Generated inputs are taken: what the parties of a run read of them, as contracts of functions that do nothing.
+#![tactic(auto)]
+
+mod laws;
+
+pub use laws::generated_schedules_are_read;
