@@ -31,20 +31,36 @@ asked_tables b tables = map (λ number. flat_map (λ part. part) (table_at table
 abbrev pub tuple_of : List (List ℕ) → Bound → ℕ → List Cell → Tuple
 tuple_of texts b side row = let sent = sent_row texts (asked_gate texts b) b side row in record { bit = sent.bit; words = sent.words }
 
+-- Parts by how a row of a side is sent.
+
 -- a part of a table of a side
-abbrev pub part_of : List (List ℕ) → Bound → ℕ → List (List Cell) → Part
-part_of texts b side rows = record { side = side; tuples = map (tuple_of texts b side) rows }
+abbrev pub part_by : (ℕ → List Cell → Tuple) → ℕ → List (List Cell) → Part
+part_by tuple side rows = record { side = side; tuples = map (tuple side) rows }
 
--- the parts of a table, if it is that of this side
-abbrev pub parts_of_side : List (List ℕ) → Bound → List TableValue → ℕ → ℕ → List Part
-parts_of_side texts b tables number side = if slice_index_or b.tables side 0 == number then map (part_of texts b side) (table_at tables number).parts else []
+-- the parts of a table, if it is that of this side. The tables of the sides are given by their numbers
+abbrev pub parts_by_side : (ℕ → List Cell → Tuple) → List ℕ → List TableValue → ℕ → ℕ → List Part
+parts_by_side tuple asked tables number side = if slice_index_or asked side 0 == number then map (part_by tuple side) (table_at tables number).parts else []
 
-abbrev pub parts_of_table : List (List ℕ) → Bound → List TableValue → ℕ → List Part
-parts_of_table texts b tables number = flat_map (parts_of_side texts b tables number) (numbers_from 0 (length b.tables))
+abbrev pub parts_by_table : (ℕ → List Cell → Tuple) → List ℕ → List TableValue → ℕ → List Part
+parts_by_table tuple asked tables number = flat_map (parts_by_side tuple asked tables number) (numbers_from 0 (length asked))
 
 -- The workers' parts: table by table in the order of the tables, and in a table in the order of its parts
+abbrev pub parts_by : (ℕ → List Cell → Tuple) → List ℕ → List TableValue → List Part
+parts_by tuple asked tables = flat_map (parts_by_table tuple asked tables) (numbers_from 0 (length tables))
+
+-- The same of a query.
+
+abbrev pub part_of : List (List ℕ) → Bound → ℕ → List (List Cell) → Part
+part_of texts b = part_by (tuple_of texts b)
+
+abbrev pub parts_of_side : List (List ℕ) → Bound → List TableValue → ℕ → ℕ → List Part
+parts_of_side texts b = parts_by_side (tuple_of texts b) b.tables
+
+abbrev pub parts_of_table : List (List ℕ) → Bound → List TableValue → ℕ → List Part
+parts_of_table texts b = parts_by_table (tuple_of texts b) b.tables
+
 abbrev pub parts_of : List (List ℕ) → Bound → List TableValue → List Part
-parts_of texts b tables = flat_map (parts_of_table texts b tables) (numbers_from 0 (length tables))
+parts_of texts b = parts_by (tuple_of texts b) b.tables
 
 -- what a query's tables meet: it is asked of them, each is there with the columns that are carried, and its texts are in the
 -- dictionary
