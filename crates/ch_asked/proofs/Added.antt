@@ -7,7 +7,10 @@ use Rattle.std.proofs.lemmas.List.Sums.{fold-append}
 use Rattle.std.proofs.lemmas.List.Folds.{list_any-append}
 use Rattle.std.proofs.lemmas.List.Elements.{All-nil, All-cons}
 use Rattle.std.proofs.lemmas.Slice.Eq.{bytes_eq-Decides}
+use Rattle.ch_lists.specs.Ordered.{ordered}
+use Rattle.ch_ranks.specs.Dictionary.{text_cmp}
 use Rattle.ch_tables.specs.Texts.{with_text, with_texts}
+use Rattle.ch_asked.specs.Texts.{dictionary_of}
 
 pub one_longer : (texts : List (List ℕ)) (t : List ℕ) → length (with_text texts t) ≤ length texts + 1
 one_longer texts t = go (list_any (bytes_eq t) texts)
@@ -64,10 +67,8 @@ holds_both texts (t ∷ more) text =
     holds_both (with_text texts t) more text
     ∙ or_moves (list_any (bytes_eq text) (with_text texts t)) (list_any (bytes_eq text) texts) (bytes_eq text t) (list_any (bytes_eq text) more) (is_or texts t text)
 
-pub dictionary_is : (ranks built filtered tabled : List (List ℕ)) → ((text : List ℕ) → list_any (bytes_eq text) ranks ≡ list_any (bytes_eq text) built)
-    → built ≡ with_texts (with_texts [] filtered) tabled → (text : List ℕ) → list_any (bytes_eq text) ranks ≡ list_any (bytes_eq text) (filtered ++ tabled)
-dictionary_is ranks built filtered tabled h e text =
-    h text ∙ (ap (λ ts. list_any (bytes_eq text) ts) (e ∙ sym (fold-append with_text [] filtered tabled)) ∙ holds_both [] (filtered ++ tabled) text)
+pub dictionary_is : (ranks built filtered tabled : List (List ℕ)) → ranks ≡ ordered text_cmp built → built ≡ with_texts (with_texts [] filtered) tabled → ranks ≡ dictionary_of (filtered ++ tabled)
+dictionary_is ranks built filtered tabled h e = h ∙ ap (ordered text_cmp) (e ∙ sym (fold-append with_text [] filtered tabled))
 
 pub first_there : (numbers : List ℕ) (n : ℕ) → numbers ≡ 0 ∷ [] → 0 < n → All (λ k. k < n) numbers
 first_there numbers n e some = subst (All (λ k. k < n)) (sym e) (All-cons (λ k. k < n) 0 [] some (All-nil (λ k. k < n)))

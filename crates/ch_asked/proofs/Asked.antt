@@ -44,6 +44,7 @@ use Rattle.ch_bind.specs.declared.error.SumError.TheVariants as error
 use Rattle.ch_parts.specs.Scanned.{AreTables, asked_tables, side_table, table_at}
 use Rattle.ch_asked.specs.Suits.{IsBoundTo, IsTyped, cell_in, rows_of}
 use Rattle.ch_asked.specs.Texts.{asked_texts, filter_texts, tables_texts}
+use Rattle.ch_asked.proofs.Dictionary.{any_in}
 
 -- ---- texts
 
@@ -94,14 +95,6 @@ text_in_table table row col t i lt e =
     let there : In t texts = in_flat (λ col. filter_map cell_text (column_cells table col)) col (range_with_len 0 (length table.header)) t (in_range 0 (length table.header) col (omega arith) (omega (arith, lt))) (in_some (column_cells table col) t cells) in
     Each-from_All (λ text. list_any (bytes_eq text) (with_texts [] texts) ≡ true) texts (all_there [] texts) t there
 
-any_in : (t : List ℕ) (texts : List (List ℕ)) → list_any (bytes_eq t) texts ≡ true → In t texts
-any_in t [] h = cc
-any_in t (u ∷ texts) h = go (bytes_eq t u) refl h (any_in t texts)
-  where
-    go : (b : Bool) → bytes_eq t u ≡ b → (b || list_any (bytes_eq t) texts) ≡ true → (list_any (bytes_eq t) texts ≡ true → In t texts) → In t (u ∷ texts)
-    go true e h ih = inl ((bytes_eq-Decides t u).0 e)
-    go false e h ih = inr (ih h)
-
 at_place : (ns : List ℕ) (side : ℕ) → side < length ns → In (slice_index_or ns side 0) ns
 at_place [] side lt = absurd (omega (arith, lt))
 at_place (n ∷ ns) zero lt = inl refl
@@ -109,7 +102,7 @@ at_place (n ∷ ns) (suc side) lt = inr (at_place ns side (omega (arith, lt)))
 
 -- ---- words
 
-abs_same : (n : ℤ) → unsigned_abs n ≡ nat_abs n
+pub abs_same : (n : ℤ) → unsigned_abs n ≡ nat_abs n
 abs_same (pos n) = refl
 abs_same (negsuc n) = refl
 

@@ -1,4 +1,7 @@
 pub mod Added
+pub mod Dictionary
 pub mod Typed
 pub mod Bound
 pub mod Asked
+pub mod Plannable
+pub mod Few

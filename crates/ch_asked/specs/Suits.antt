@@ -1,5 +1,5 @@
 -- Tables whose cells are of their columns' kinds, and a query that is bound to them.
-use Rattle.std.specs.Prelude.{◌≡◌, ℕ, ◌<◌, List, flat_map, map, length, slice_index_or, None, All, pos}
+use Rattle.std.specs.Prelude.{◌≡◌, ℕ, ◌<◌, ◌≤◌, List, flat_map, map, length, slice_index_or, None, All, pos}
 use Rattle.ch_cells.specs.declared.Cell.{Cell}
 use Rattle.ch_cells.specs.declared.Cell.TheVariants as cell
 use Rattle.ch_cells.specs.declared.Kind.TheVariants as kind
@@ -26,6 +26,13 @@ IsTyped table = Each (λ row. (at : ℕ) → at < length table.header → IsOfKi
 -- what binding knows of a table
 abbrev pub shape_of : TableValue → TableShape
 shape_of table = record { name = table.name; header = table.header; kinds = table.kinds }
+
+-- there are at most 64 tables, each of 1 to 64 parts with at most 4,000,000 rows each
+pub record AreSmall (tables : List TableValue) : Type 0 where
+  pub few : length tables ≤ 64
+  pub some_parts : Each (λ table. 1 ≤ length table.parts) tables
+  pub few_parts : Each (λ table. length table.parts ≤ 64) tables
+  pub few_rows : Each (λ table. Each (λ part. length part ≤ 4000000) table.parts) tables
 
 -- The query is sound, its tables are there with the columns that it carries and their kinds, and no cell that it sums is
 -- negative

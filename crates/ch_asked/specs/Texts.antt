@@ -7,7 +7,9 @@ use Rattle.ch_pred.specs.declared.pred.Arg.TheVariants as arg
 use Rattle.ch_pred.specs.declared.pred.Literal.{Literal}
 use Rattle.ch_pred.specs.declared.pred.Literal.TheVariants as literal
 use Rattle.ch_tables.specs.TableValue.{TableValue}
-use Rattle.ch_tables.specs.Texts.{texts_of}
+use Rattle.ch_lists.specs.Ordered.{ordered}
+use Rattle.ch_ranks.specs.Dictionary.{text_cmp}
+use Rattle.ch_tables.specs.Texts.{texts_of, with_texts}
 use Rattle.ch_parts.specs.Scanned.{table_at}
 
 abbrev pub literal_texts : Literal → List (List ℕ)
@@ -37,5 +39,13 @@ abbrev mutual
 abbrev pub tables_texts : List TableValue → List ℕ → List (List ℕ)
 tables_texts tables numbers = flat_map (λ number. texts_of (table_at tables number)) numbers
 
+-- by a query's filter and the numbers of its tables
+abbrev pub texts_asked : Plain → List ℕ → List TableValue → List (List ℕ)
+texts_asked filter numbers tables = filter_texts filter ++ tables_texts tables numbers
+
 abbrev pub asked_texts : Bound → List TableValue → List (List ℕ)
-asked_texts b tables = filter_texts (plain_of b.filter) ++ tables_texts tables b.tables
+asked_texts b tables = texts_asked (plain_of b.filter) b.tables tables
+
+-- the texts, each once, in ascending order
+abbrev pub dictionary_of : List (List ℕ) → List (List ℕ)
+dictionary_of texts = ordered text_cmp (with_texts [] texts)

@@ -1,9 +1,7 @@
-ghost use Rattle.std.specs.Prelude.{◌≡◌, ◌<◌, ◌+◌, ◌^◌, ◌++◌, ℕ, [], All, List, bytes_eq, flat_map, length, map, IfOk, OnOk};
-ghost use Rattle.std.specs.List.{list_any};
+ghost use Rattle.std.specs.Prelude.{◌≡◌, ◌<◌, ◌+◌, ◌^◌, ◌++◌, All, flat_map, length, map, IfOk, OnOk};
 ghost use Rattle.ch_pred.specs.Plain.{plain_of, plains};
-ghost use Rattle.ch_ranks.specs.Dictionary.{Ascends};
 ghost use Rattle.ch_tables.specs.Texts.{texts_of, with_text, with_texts};
-ghost use Rattle.ch_asked.specs.Texts.{arg_texts, asked_texts, filter_texts, literal_texts, member_texts, tables_texts};
+ghost use Rattle.ch_asked.specs.Texts.{arg_texts, asked_texts, dictionary_of, filter_texts, literal_texts, member_texts, tables_texts};
 
 use ch_cells::Memory;
 use ch_pred::{Arg, Bound, BoundPred, Literal};
@@ -131,8 +129,7 @@ fn with_tables(gathered: Gathered, tables: &[Table], numbers: &[u32]) -> Result<
 #[tactic(auto, using(crate::proofs::Added::dictionary_is))]
 pub fn rank_texts(alloc: Global, bound: &Bound, tables: &[Table]) -> Result<Ranks, Memory>
     requires { All (λ number. number < length tables.now) bound.now.tables }
-    ensures ascends { IfOk result Ascends }
-    ensures same { IfOk result (λ texts. (text : List ℕ) → list_any (bytes_eq text) texts ≡ list_any (bytes_eq text) (asked_texts bound.now tables.now)) }
+    ensures is { IfOk result (λ texts. texts ≡ dictionary_of (asked_texts bound.now tables.now)) }
     ensures few { IfOk result (λ texts. length texts < 2 ^ 32) }
 {
     let mut gathered = Gathered {
