@@ -7,5 +7,8 @@ mod laws;
 mod tests;
 mod texts;
 
-pub use laws::{bound_queries_are_plannable, bound_queries_suit, dictionaries_are_exact, read_tables_are_typed, suited_tables_are_asked, workers_are_few};
+pub use laws::{
+    bound_queries_are_plannable, bound_queries_suit, dictionaries_are_exact, read_tables_are_typed,
+    suited_tables_are_asked, workers_are_few,
+};
 pub use texts::rank_texts;

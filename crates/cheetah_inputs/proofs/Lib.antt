@@ -1,3 +1,4 @@
+pub mod Asked
 pub mod Asking
 pub mod Chains
 pub mod Gathered
@@ -7,4 +8,5 @@ pub mod Naming
 pub mod Queues
 pub mod Reading
 pub mod Schedules
+pub mod Sizes
 pub mod Texts

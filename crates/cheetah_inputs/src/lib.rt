@@ -3,6 +3,7 @@
 #![tactic(auto)]
 
 mod inputs;
+mod laws;
 mod messages;
 mod parts;
 mod question;
@@ -12,6 +13,7 @@ mod shapes;
 mod tables;
 
 pub use inputs::{Inputs, names_in, read_inputs};
+pub use laws::{read_inputs_can_be_asked, read_schedules_can_be_run, read_tables_are_small};
 pub use messages::{bind_line, schedule_line, sum_line};
 pub use question::read_question;
 pub use refusal::Refusal;
