@@ -1,15 +1,14 @@
 -- What a run of a planned query is begun with may be run.
-use Rattle.std.proofs.Common.{◌≡◌, ℕ, zero, suc, ◌+◌, ◌<◌, ◌≤◌, ◌^◌, Bool, true, false, cond, eqb, List, [], ◌∷◌, ◌++◌, length, map, flat_map, refl, ap, sym, ◌∙◌, arith, subst, inl, inr}
-use Rattle.std.specs.Prelude.{slice_index, slice_index_or, if◌then◌else◌, ◌==◌, None}
+use Rattle.std.proofs.Common.{◌≡◌, ℕ, zero, suc, ◌<◌, ◌≤◌, ◌^◌, Bool, true, false, List, [], ◌∷◌, length, map, flat_map, refl, ap, sym, ◌∙◌, arith, subst, inl, inr}
+use Rattle.std.specs.Prelude.{slice_index_or, if◌then◌else◌, ◌==◌, None}
 use Rattle.std.proofs.lemmas.List.{length-map}
 use Rattle.ch_lists.specs.Members.{In, Each}
 use Rattle.ch_lists.proofs.Members.{In-append, In-map, In-map_from, Each-permutation}
 use Rattle.ch_cover.specs.Rows.{Row}
 use Rattle.ch_ir.specs.declared.profile.Profile.{Profile}
 use Rattle.ch_pred.specs.Meaning.{answer}
-use Rattle.ch_pred.specs.Sound.{has_one_table}
 use Rattle.ch_pred.specs.declared.bound.Bound.{Bound}
-use Rattle.ch_plan.specs.Kinds.{IsPlanOf, kind_policy, kind_program, kind_times}
+use Rattle.ch_plan.specs.Kinds.{IsPlanOf, kind_program, kind_times}
 use Rattle.ch_plan.specs.Needs.{greatest_length}
 use Rattle.ch_plan.specs.declared.kind.PlanKind.{PlanKind}
 use Rattle.ch_protocol.specs.Packets.{Part}
@@ -18,13 +17,12 @@ use Rattle.ch_protocol.specs.Machine.{Config, State, IsReached, passes, row_at, 
 use Rattle.ch_protocol.specs.Received.{all_rows, rows_arrived}
 use Rattle.ch_protocol.proofs.Lists.{In-numbers}
 use Rattle.ch_protocol_laws.proofs.Names.{name, names_of, names-from, names-rows}
-use Rattle.ch_words.specs.Packets.{table_of}
 use Rattle.ch_words.proofs.SoundQueries.{sound_tables}
 use Rattle.ch_fold_lines.specs.Rows.{RowFits}
 use Rattle.ch_fold_lines.proofs.WordFits.{sent_fit}
 use Rattle.ch_survival.specs.Asked.{answer_arrived, asked_gate, asked_rows}
 use Rattle.ch_verdicts.specs.Handed.{IsPass}
-use Rattle.ch_survival.specs.Given.{AreParts, Given, IsPlanned, given_of, no_part, side_of}
+use Rattle.ch_survival.specs.Given.{AreParts, IsPlanned, given_of, no_part}
 use Rattle.ch_survival.proofs.Survives.{asked_starts, asked_survives}
 use Rattle.ch_ir.specs.Machine.{cleared}
 use Rattle.ch_ir.specs.declared.program.Program.{Program}
@@ -33,7 +31,6 @@ use Rattle.ch_tables.specs.TableValue.{TableValue}
 use Rattle.ch_parts.specs.Scanned.{AreTables, asked_tables, part_of, parts_of, parts_of_side, parts_of_table, table_at}
 use Rattle.ch_parts.proofs.Permuting.{permuted}
 use Rattle.ch_parts.proofs.Reading.{few_sides}
-use Rattle.ch_stands.specs.Team.{sizes_of}
 use Rattle.ch_stands.proofs.Starting.{size_at}
 use Rattle.ch_engine.specs.Stands.{AreFolded, Stands}
 use Rattle.ch_engine.specs.declared.engine.Engine.{Engine}

@@ -1,7 +1,6 @@
 -- A run goes from state to state.
-use Rattle.std.proofs.Common.{◌≡◌, ℕ, List, [], ◌∷◌, length, refl, ap, sym, ◌∙◌, arith, subst}
-use Rattle.std.specs.Prelude.{OnOk, OnErr, IfOk, Result, Ok, Err}
-use Rattle.ch_pred.specs.declared.bound.Bound.{Bound}
+use Rattle.std.proofs.Common.{◌≡◌, length, ap, sym, ◌∙◌}
+use Rattle.std.specs.Prelude.{OnOk, OnErr, Result, Ok, Err}
 use Rattle.ch_protocol.specs.Machine.{Config, State, Event, run, step}
 use Rattle.ch_protocol_laws.proofs.Reached.{reached_sound, reached_step}
 use Rattle.ch_engine.specs.Stands.{Follows, IsSameQuery, IsStanding}

@@ -1,21 +1,18 @@
 -- Events one after the other, and their notes.
-use Rattle.std.proofs.Common.{◌≡◌, ℕ, zero, suc, ◌+◌, ◌-◌, ◌<◌, ◌≤◌, true, false, List, [], ◌∷◌, ◌++◌, length, map, replicate, refl, ap, sym, ◌∙◌, arith, subst}
-use Rattle.std.specs.Prelude.{OnOk, OnErr, Result, Ok, Err}
+use Rattle.std.proofs.Common.{◌≡◌, ℕ, zero, suc, ◌+◌, true, false, List, [], ◌∷◌, ◌++◌, map, replicate, refl, ap, sym, ◌∙◌, arith, subst}
+use Rattle.std.specs.Prelude.{OnErr, Result, Ok, Err}
 use Rattle.std.proofs.lemmas.List.{append-nil}
 use Rattle.ch_protocol.specs.Sets.{numbers_from}
-use Rattle.ch_protocol.specs.Machine.{Config, State, Event, size, workers, can_send, step, run, stopped}
+use Rattle.ch_protocol.specs.Machine.{Config, State, Event, can_send, step, run, stopped}
 use Rattle.ch_protocol.specs.Machine.How.{Take}
 use Rattle.ch_protocol.specs.Machine.Event.{Send, Resend, Back}
 use Rattle.ch_protocol.specs.Drain.{drain, round}
 use Rattle.ch_protocol.specs.DrainEvents.{back_events, drain_events, round_events, rounds_events, send_events, turn_events, turns_events}
 use Rattle.ch_protocol_laws.proofs.DrainEvents.{run_append, run_drain, run_turn, run_round}
-use Rattle.ch_protocol_laws.proofs.Reached.{reached_step}
 use Rattle.ch_protocol_laws.proofs.Fuel.{round_stopped}
-use Rattle.ch_protocol.specs.Invariant.{IsSound}
-use Rattle.ch_engine.specs.Stands.{Follows, IsSameQuery, IsStanding}
 use Rattle.ch_engine.specs.declared.engine.Engine.{Engine}
 use Rattle.ch_run.specs.Making.{Makes, round_of}
-use Rattle.ch_run.specs.Runs.{Begun, IsRunOf, IsRunning, LeadsOn, LeadsTo}
+use Rattle.ch_run.specs.Runs.{Begun, IsRunOf, LeadsOn, LeadsTo}
 
 appended : {X : Type 0} (xs ys zs : List X) → (xs ++ ys) ++ zs ≡ xs ++ (ys ++ zs)
 appended [] ys zs = refl

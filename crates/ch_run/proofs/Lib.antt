@@ -5,3 +5,7 @@ pub mod Team
 pub mod Rounding
 pub mod Most
 pub mod Rows
+pub mod Epochs
+pub mod Followed
+pub mod Reporting
+pub mod Scheduling

@@ -1,5 +1,5 @@
 -- The events of a round, link after link.
-use Rattle.std.proofs.Common.{◌≡◌, ℕ, List, [], ◌∷◌, ◌++◌, length, replicate, refl, ap, sym, ◌∙◌}
+use Rattle.std.proofs.Common.{◌≡◌, List, [], ◌∷◌, ◌++◌, length, replicate, refl, ap, ◌∙◌}
 use Rattle.ch_protocol.specs.Machine.{Config, State, Event, run, workers}
 use Rattle.ch_protocol.specs.Machine.Event.{Up, Down}
 use Rattle.ch_protocol.specs.Machine.How.{Take}

@@ -1,9 +1,9 @@
 -- How many rows the first workers have.
-use Rattle.std.proofs.Common.{◌≡◌, ℕ, zero, suc, ◌+◌, ◌*◌, ◌<◌, ◌≤◌, List, [], ◌∷◌, ◌++◌, length, map, take, refl, ap, sym, ◌∙◌, arith}
-use Rattle.std.specs.Prelude.{slice_index_or, sum_by}
+use Rattle.std.proofs.Common.{◌≡◌, ℕ, zero, suc, ◌+◌, ◌<◌, ◌≤◌, List, [], ◌∷◌, ◌++◌, length, take, refl, ap, sym, ◌∙◌, arith}
+use Rattle.std.specs.Prelude.{slice_index_or}
 use Rattle.std.specs.List.{fold}
 use Rattle.ch_protocol.specs.Packets.{Part}
-use Rattle.ch_protocol.specs.Machine.{Config, rows_in, total, workers}
+use Rattle.ch_protocol.specs.Machine.{Config, total}
 use Rattle.ch_survival.specs.Given.{no_part}
 use Rattle.ch_stands.specs.Team.{sizes_of}
 use Rattle.ch_stands.proofs.Starting.{total_is}

@@ -1,5 +1,5 @@
 -- What a run of a planned query is begun with.
-use Rattle.std.specs.Prelude.{◌≡◌, ℕ, ◌+◌, ◌<◌, ◌≤◌, ◌==◌, ◌^◌, List, length, slice_index}
+use Rattle.std.specs.Prelude.{ℕ, ◌+◌, ◌<◌, ◌≤◌, ◌==◌, ◌^◌, List, length, slice_index}
 use Rattle.ch_pred.specs.declared.bound.Bound.{Bound}
 use Rattle.ch_plan.specs.Kinds.{kind_policy, kind_times}
 use Rattle.ch_plan.specs.declared.kind.PlanKind.{PlanKind}

@@ -2,8 +2,11 @@
 #![tactic(auto)]
 
 mod draining;
+mod following;
 mod laws;
+mod outcome;
 mod run;
 
-pub use laws::stopped_runs_answer;
+pub use laws::{drained_runs_are_done, schedules_may_be_followed, stopped_runs_answer};
+pub use outcome::Outcome;
 pub use run::Run;

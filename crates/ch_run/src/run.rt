@@ -1,4 +1,4 @@
-ghost use Rattle.std.specs.Prelude.{◌≡◌, ◌≤◌, true, false, IfOk, OnOk, OnErr};
+ghost use Rattle.std.specs.Prelude.{◌≡◌, ◌≤◌, ◌+◌, true, false, IfOk, OnOk, OnErr};
 ghost use Rattle.ch_finish.specs.Fold.{is_folded};
 ghost use Rattle.ch_ir.specs.declared.profile.Profile.{Profile};
 ghost use Rattle.ch_parts.specs.Scanned.{AreTables, parts_of};
@@ -82,6 +82,7 @@ impl<'a> Run<'a> {
         requires unforged { is_forged event.now ≡ false }
         ensures ok { OnOk result (LeadsTo self.old self.new (λ c s. step c s (event_of event.now))) }
         ensures err { OnErr result (LeadsTo self.old self.new (λ c s. s)) }
+        ensures epoch { self.new.switch.epoch ≤ self.old.switch.epoch + 1 }
     {
         self.engine.step(event)?;
         Ok(())

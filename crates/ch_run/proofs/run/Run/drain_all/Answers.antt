@@ -1,10 +1,10 @@
-use Rattle.std.proofs.Common.{◌≡◌, ◌∙◌, sym, subst, ap, arith, length}
+use Rattle.std.proofs.Common.{sym, subst, ap, arith}
 use Rattle.std.proofs.lemmas.Result.{on_ok_weaker}
 use Rattle.ch_protocol.specs.DrainEvents.{drain_events, rounds_events}
 use Rattle.ch_engine.specs.declared.engine.Engine.{Engine}
 use Rattle.ch_run.specs.Runs.{IsRunOf}
 use Rattle.ch_run.proofs.Leading.{makes_same}
-use Rattle.ch_run.proofs.Most.{rounds_are, workers_small}
+use Rattle.ch_run.proofs.Most.{rounds_are}
 use Rattle.ch_run.proofs.run.Run.drain_all.Goals as goal
 
 pub returns-clause-ok : goal.returns-clause-ok

@@ -1,6 +1,5 @@
-use Rattle.std.proofs.Common.{◌≡◌, ◌+◌, ◌-◌, ◌<◌, ◌≤◌, ◌^◌, ℕ, suc, true, false, List, [], ◌∷◌, ◌++◌, length, map, replicate, refl, ap, sym, ◌∙◌, arith, subst}
-use Rattle.ch_protocol.specs.Machine.{Config, State, Event, size, workers, run}
-use Rattle.ch_protocol.specs.Machine.Event.{Send, Resend, Up, Down, Back}
+use Rattle.std.proofs.Common.{◌≡◌, ◌+◌, ◌-◌, suc, [], ◌∷◌, length, ap, sym, ◌∙◌, arith}
+use Rattle.ch_protocol.specs.Machine.Event.{Back}
 use Rattle.ch_protocol.specs.Machine.How.{Take}
 use Rattle.ch_engine.specs.declared.engine.Engine.{Engine}
 use Rattle.ch_protocol.specs.DrainEvents.{back_events}

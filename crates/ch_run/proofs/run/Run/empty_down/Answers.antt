@@ -1,10 +1,9 @@
-use Rattle.std.proofs.Common.{◌≡◌, ◌+◌, ◌-◌, ◌<◌, ◌≤◌, ◌^◌, ℕ, suc, true, false, List, [], ◌∷◌, ◌++◌, length, map, replicate, refl, ap, sym, ◌∙◌, arith, subst}
-use Rattle.ch_protocol.specs.Machine.{Config, State, Event, size, workers, run}
-use Rattle.ch_protocol.specs.Machine.Event.{Send, Resend, Up, Down, Back}
+use Rattle.std.proofs.Common.{◌≡◌, ◌+◌, ◌-◌, suc, [], ◌∷◌, length, replicate, ap, arith}
+use Rattle.ch_protocol.specs.Machine.Event.{Down}
 use Rattle.ch_protocol.specs.Machine.How.{Take}
 use Rattle.ch_engine.specs.declared.engine.Engine.{Engine}
 use Rattle.ch_stands.proofs.Lists.{length-map}
-use Rattle.ch_stands.specs.Packets.{bytes_of, ack_bytes}
+use Rattle.ch_stands.specs.Packets.{bytes_of}
 use Rattle.ch_run.proofs.Leading.{way_init, way_more, way_end, way_fails, makes_same, replicate_more, replicate_none, on_err}
 use Rattle.ch_run.proofs.run.Run.empty_down.Goals as goal
 

@@ -1,7 +1,5 @@
-use Rattle.std.proofs.Common.{◌≡◌, ◌∙◌, length, ap}
 use Rattle.std.proofs.lemmas.Result.{on_ok_weaker, on_err_weaker}
 use Rattle.ch_schedule.specs.Event.{event_of}
-use Rattle.ch_engine.specs.declared.engine.Engine.{Engine}
 use Rattle.ch_run.proofs.Leading.{none_leads, one_makes}
 use Rattle.ch_run.proofs.Team.{team_step}
 use Rattle.ch_run.proofs.run.Run.make.Goals as goal

@@ -1,10 +1,6 @@
-use Rattle.std.proofs.Common.{◌≡◌, ◌+◌, ◌-◌, ◌<◌, ◌≤◌, ◌^◌, ℕ, suc, true, false, List, [], ◌∷◌, ◌++◌, length, map, replicate, refl, ap, sym, ◌∙◌, arith, subst}
-use Rattle.ch_protocol.specs.Machine.{Config, State, Event, size, workers, run}
-use Rattle.ch_protocol.specs.Machine.Event.{Send, Resend, Up, Down, Back}
-use Rattle.ch_protocol.specs.Machine.How.{Take}
-use Rattle.ch_engine.specs.declared.engine.Engine.{Engine}
+use Rattle.std.proofs.Common.{◌≡◌, ◌+◌, ◌-◌, suc, [], ◌∷◌, map, ap, ◌∙◌, arith}
+use Rattle.ch_protocol.specs.Machine.Event.{Resend}
 use Rattle.ch_protocol.specs.Sets.{numbers_from}
-use Rattle.ch_protocol.specs.Sender.{open_numbers}
 use Rattle.ch_protocol.specs.Drain.{resend_events}
 use Rattle.ch_run.proofs.Leading.{way_init, way_more, way_end, way_fails, makes_same, resends_more, resends_none, on_err}
 use Rattle.ch_run.proofs.Team.{count_is, team_made, team_lead}

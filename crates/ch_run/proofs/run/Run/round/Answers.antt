@@ -1,8 +1,4 @@
-use Rattle.std.proofs.Common.{◌≡◌, ◌+◌, ◌-◌, ◌<◌, ◌≤◌, ◌^◌, ℕ, suc, true, false, List, [], ◌∷◌, ◌++◌, length, map, replicate, refl, ap, sym, ◌∙◌, arith, subst}
-use Rattle.ch_protocol.specs.Machine.{Config, State, Event, size, workers, run}
-use Rattle.ch_protocol.specs.Machine.Event.{Send, Resend, Up, Down, Back}
-use Rattle.ch_protocol.specs.Machine.How.{Take}
-use Rattle.ch_engine.specs.declared.engine.Engine.{Engine}
+use Rattle.ch_protocol.specs.Machine.{workers}
 use Rattle.std.proofs.lemmas.Result.{on_ok_weaker, on_err_weaker}
 use Rattle.ch_run.proofs.Leading.{then_leads, on_err}
 use Rattle.ch_run.proofs.Rounding.{ups, downs, to_ups, to_downs, to_backs}

@@ -1,8 +1,4 @@
-use Rattle.std.proofs.Common.{◌≡◌, ◌+◌, ◌-◌, ◌<◌, ◌≤◌, ◌^◌, ℕ, suc, true, false, List, [], ◌∷◌, ◌++◌, length, map, replicate, refl, ap, sym, ◌∙◌, arith, subst}
-use Rattle.ch_protocol.specs.Machine.{Config, State, Event, size, workers, run}
-use Rattle.ch_protocol.specs.Machine.Event.{Send, Resend, Up, Down, Back}
-use Rattle.ch_protocol.specs.Machine.How.{Take}
-use Rattle.ch_engine.specs.declared.engine.Engine.{Engine}
+use Rattle.std.proofs.Common.{◌≡◌, ◌+◌, ◌-◌, suc, ap, sym, ◌∙◌, arith}
 use Rattle.ch_protocol.specs.DrainEvents.{rounds_events}
 use Rattle.ch_run.specs.Making.{round_of}
 use Rattle.ch_run.proofs.Leading.{way_init, way_more, way_end, way_fails, rounds_more, rounds_over, rounds_stop, on_err}

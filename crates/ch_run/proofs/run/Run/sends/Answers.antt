@@ -1,7 +1,6 @@
-use Rattle.std.proofs.Common.{◌≡◌, ◌+◌, ◌-◌, ◌<◌, ◌≤◌, ◌^◌, ℕ, suc, true, false, List, [], ◌∷◌, ◌++◌, length, map, replicate, refl, ap, sym, ◌∙◌, arith, subst}
-use Rattle.ch_protocol.specs.Machine.{Config, State, Event, size, workers, run}
-use Rattle.ch_protocol.specs.Machine.Event.{Send, Resend, Up, Down, Back}
-use Rattle.ch_protocol.specs.Machine.How.{Take}
+use Rattle.std.proofs.Common.{◌≡◌, ◌+◌, ◌-◌, ◌<◌, suc, [], ◌∷◌, length, refl, ap, ◌∙◌, arith}
+use Rattle.ch_protocol.specs.Machine.{size}
+use Rattle.ch_protocol.specs.Machine.Event.{Send}
 use Rattle.ch_engine.specs.declared.engine.Engine.{Engine}
 use Rattle.std.specs.Prelude.{slice_index_or}
 use Rattle.ch_protocol.specs.DrainEvents.{send_events}

@@ -1,8 +1,7 @@
-use Rattle.std.proofs.Common.{◌≡◌, ℕ, ◌+◌, ◌<◌, ◌≤◌, ◌^◌, List, length, refl, ap, sym, ◌∙◌, arith, subst}
+use Rattle.std.proofs.Common.{ℕ, ◌+◌, ◌<◌, ◌^◌, List, length, refl, ap, sym, arith, subst}
 use Rattle.std.specs.Prelude.{slice_index, ◌==◌}
 use Rattle.ch_protocol.specs.Packets.{Part}
 use Rattle.ch_protocol.specs.Machine.{start}
-use Rattle.ch_parts.specs.Scanned.{parts_of}
 use Rattle.ch_stands.specs.Team.{sizes_of}
 use Rattle.ch_run.specs.Asked.{begun_of}
 use Rattle.ch_run.proofs.Asking.{begins, planned, switch_is}

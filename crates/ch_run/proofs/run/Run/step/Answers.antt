@@ -1,7 +1,8 @@
-use Rattle.std.proofs.Common.{◌≡◌, sym, subst}
+use Rattle.std.proofs.Common.{sym, subst}
 use Rattle.ch_schedule.specs.Event.{event_of}
 use Rattle.ch_engine.specs.declared.engine.Engine.{Engine}
 use Rattle.ch_run.specs.Runs.{IsRunOf}
+use Rattle.ch_run.proofs.Followed.{epoch_after, epoch_stays}
 use Rattle.ch_run.proofs.Going.{goes, in_err, standing, stays, still_running}
 use Rattle.ch_run.proofs.run.Run.step.Goals as goal
 
@@ -21,3 +22,11 @@ returns-in_err-step-clause-err c =
 pub returns-clause-ok : goal.returns-clause-ok
 returns-clause-ok c q s r =
     goes c.self.inside.engine c.step.new.self (event_of c.args.event.now) c.in_ok-step.ensures.query c.in_ok-step.ensures.ok q s (subst (λ (x : Engine). IsRunOf q x s) (sym c.self.view_is) r)
+
+pub returns-in_err-step-clause-epoch : goal.returns-in_err-step-clause-epoch
+returns-in_err-step-clause-epoch c =
+    epoch_stays c.self.inside.engine c.args.self.now c.step.new.self c.self.invariant c.self.view_is (stays c.self.inside.engine c.step.new.self c.in_err-step.ensures.query c.in_err-step.ensures.err)
+
+pub returns-clause-epoch : goal.returns-clause-epoch
+returns-clause-epoch c =
+    epoch_after c.self.inside.engine c.args.self.now c.step.new.self c.args.event.now c.self.invariant c.self.view_is (goes c.self.inside.engine c.step.new.self (event_of c.args.event.now) c.in_ok-step.ensures.query c.in_ok-step.ensures.ok)

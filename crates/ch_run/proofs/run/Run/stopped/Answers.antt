@@ -1,4 +1,4 @@
-use Rattle.std.proofs.Common.{◌≡◌, ◌∙◌, sym, subst}
+use Rattle.std.proofs.Common.{sym, subst}
 use Rattle.ch_engine.specs.Stands.{Stands}
 use Rattle.ch_engine.specs.declared.engine.Engine.{Engine}
 use Rattle.ch_run.proofs.run.Run.stopped.Goals as goal

@@ -1,8 +1,5 @@
-use Rattle.std.proofs.Common.{◌≡◌, ◌+◌, ◌-◌, ◌<◌, ◌≤◌, ◌^◌, ℕ, suc, true, false, List, [], ◌∷◌, ◌++◌, length, map, replicate, refl, ap, sym, ◌∙◌, arith, subst}
-use Rattle.ch_protocol.specs.Machine.{Config, State, Event, size, workers, run}
-use Rattle.ch_protocol.specs.Machine.Event.{Send, Resend, Up, Down, Back}
-use Rattle.ch_protocol.specs.Machine.How.{Take}
-use Rattle.ch_engine.specs.declared.engine.Engine.{Engine}
+use Rattle.std.proofs.Common.{suc, refl, ◌∙◌}
+use Rattle.ch_protocol.specs.Machine.{size}
 use Rattle.std.proofs.lemmas.Result.{on_ok_weaker, on_err_weaker}
 use Rattle.ch_protocol.specs.Drain.{resend_events}
 use Rattle.ch_protocol.specs.DrainEvents.{send_events, turn_events}

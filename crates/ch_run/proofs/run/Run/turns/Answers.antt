@@ -1,7 +1,5 @@
-use Rattle.std.proofs.Common.{◌≡◌, ◌+◌, ◌-◌, ◌<◌, ◌≤◌, ◌^◌, ℕ, suc, true, false, List, [], ◌∷◌, ◌++◌, length, map, replicate, refl, ap, sym, ◌∙◌, arith, subst}
-use Rattle.ch_protocol.specs.Machine.{Config, State, Event, size, workers, run}
-use Rattle.ch_protocol.specs.Machine.Event.{Send, Resend, Up, Down, Back}
-use Rattle.ch_protocol.specs.Machine.How.{Take}
+use Rattle.std.proofs.Common.{◌≡◌, ◌+◌, ◌-◌, suc, length, refl, ap, ◌∙◌, arith}
+use Rattle.ch_protocol.specs.Machine.{workers}
 use Rattle.ch_engine.specs.declared.engine.Engine.{Engine}
 use Rattle.ch_protocol.specs.DrainEvents.{turn_events, turns_events}
 use Rattle.ch_run.proofs.Leading.{way_init, way_more, way_end, way_fails, makes_same, turns_more, turns_over, on_err}

@@ -1,8 +1,5 @@
-use Rattle.std.proofs.Common.{◌≡◌, ◌-◌, ◌+◌, length, map, replicate}
-use Rattle.ch_protocol.specs.Machine.Event.{Resend, Up, Down, Back}
-use Rattle.ch_protocol.specs.Machine.How.{Take}
-use Rattle.ch_protocol.specs.Sets.{numbers_from}
-use Rattle.ch_protocol.specs.DrainEvents.{back_events, rounds_events, send_events, turns_events}
+use Rattle.std.proofs.Common.{◌≡◌, ◌-◌, length}
+use Rattle.ch_protocol.specs.DrainEvents.{turns_events}
 use Rattle.ch_run.proofs.Leading.{IsOnTheWay}
 use Rattle.ch_run.proofs.run.Run.turns.Given as goal
 
