@@ -1,6 +1,6 @@
 -- What a run of a planned query is begun with may be run.
 use Rattle.std.proofs.Common.{◌≡◌, ℕ, zero, suc, ◌<◌, ◌≤◌, ◌^◌, Bool, true, false, List, [], ◌∷◌, length, map, flat_map, refl, ap, sym, ◌∙◌, arith, subst, inl, inr}
-use Rattle.std.specs.Prelude.{slice_index_or, if◌then◌else◌, ◌==◌, None}
+use Rattle.std.specs.Prelude.{None, Option, Some, if◌then◌else◌, slice_index_or, ◌==◌}
 use Rattle.std.proofs.lemmas.List.{length-map}
 use Rattle.ch_lists.specs.Members.{In, Each}
 use Rattle.ch_lists.proofs.Members.{In-append, In-map, In-map_from, Each-permutation}
@@ -21,7 +21,8 @@ use Rattle.ch_words.proofs.SoundQueries.{sound_tables}
 use Rattle.ch_fold_lines.specs.Rows.{RowFits}
 use Rattle.ch_fold_lines.proofs.WordFits.{sent_fit}
 use Rattle.ch_survival.specs.Asked.{answer_arrived, asked_gate, asked_rows}
-use Rattle.ch_verdicts.specs.Handed.{IsPass}
+use Rattle.ch_verdicts.specs.Handed.{HasPlaces, IsPass, IsSlot}
+use Rattle.ch_verdicts.specs.declared.Slot.{Slot}
 use Rattle.ch_survival.specs.Given.{AreParts, IsPlanned, given_of, no_part}
 use Rattle.ch_survival.proofs.Survives.{asked_starts, asked_survives}
 use Rattle.ch_ir.specs.Machine.{cleared}
@@ -34,7 +35,7 @@ use Rattle.ch_parts.proofs.Reading.{few_sides}
 use Rattle.ch_stands.proofs.Starting.{size_at}
 use Rattle.ch_engine.specs.Stands.{AreFolded, Stands}
 use Rattle.ch_engine.specs.declared.engine.Engine.{Engine}
-use Rattle.ch_run.specs.Asked.{AreFew, begun_of, config_of}
+use Rattle.ch_run.specs.Asked.{AreFew, MayBegin, begun_of, begun_over, config_of}
 use Rattle.ch_run.specs.Runs.{IsRunOf}
 
 -- a worker's row is one of all rows
@@ -128,6 +129,54 @@ switch_is texts b tables k window n checked parts sw p ps l e =
     let g = (begun_of texts b tables k window).given in
     let many : n ≡ workers g.config = l ∙ (ap (λ (qs : List Part). length qs) ps ∙ sym (length-map (parts_of texts b tables) rows_in)) in
     e ∙ (ap (λ (r : Program). fresh r (cleared r.arrays) None n) p ∙ ap (λ m. fresh g.program g.begun g.slot m) many)
+
+-- a slot that stands behind the words of rows has a place for them
+slot_places : (o : Option Slot) (slot : Slot) (width place n : ℕ) → o ≡ Some slot → HasPlaces None width n → width ≤ slot.place → HasPlaces o place n
+slot_places o slot width place n e h le = subst (λ (p : Option Slot). HasPlaces p place n) (sym e) (omega (arith, h, le))
+
+slot_within : (o : Option Slot) (slot : Slot) (width wide : ℕ) → o ≡ Some slot → 3 ≤ width → width ≤ slot.place → slot.place < wide → IsSlot o wide
+slot_within o slot width wide e three le lt = subst (λ (p : Option Slot). IsSlot p wide) (sym e) (omega (arith, three, le), lt)
+
+pub planned_over : (texts : List (List ℕ)) (b : Bound) (tables : List TableValue) (k : PlanKind) (profile : Profile) (window : ℕ) (sw : Switching) → AreTables texts b tables → IsPlanOf k b profile → greatest_length b.carried ≤ 16
+    → AreFew (parts_of texts b tables) → 1 ≤ window → window < 2 ^ 32 → MayBegin texts b k (length (parts_of texts b tables)) sw → IsPlanned (begun_over texts b tables k window sw).given
+planned_over texts b tables k profile window sw t p few f low high may =
+    let alone = planned texts b tables k profile window t p few f low high in
+    let width = (kind_program k).width in
+    record {
+      parts = alone.parts;
+      slotted = slot_within sw.slot may.slot width sw.program.width may.slot_is alone.slotted may.wide may.within;
+      rows = λ pass w n is lt less. let r = alone.rows pass w n is lt less in record {
+        pass = r.pass;
+        side = r.side;
+        few = r.few;
+        places = slot_places sw.slot may.slot width sw.program.width _ may.slot_is r.places may.wide;
+        words = r.words;
+        row = r.row;
+      };
+      begun = may.begun;
+      cleared = may.cleared;
+    }
+
+-- the run at its start over such a switch
+pub begins_over : (texts : List (List ℕ)) (b : Bound) (tables : List TableValue) (k : PlanKind) (profile : Profile) (window : ℕ) (sw : Switching) (x : Engine) → AreTables texts b tables → IsPlanOf k b profile → greatest_length b.carried ≤ 16
+    → AreFew (parts_of texts b tables) → 1 ≤ window → window < 2 ^ 32 → MayBegin texts b k (length (parts_of texts b tables)) sw
+    → (let q = begun_over texts b tables k window sw in AreFolded texts b q.given.config → Stands q.given x (start q.given.config))
+    → x.ranks.now ≡ texts → x.bound.now ≡ b
+    → let q = begun_over texts b tables k window sw in IsRunOf q x (start q.given.config)
+begins_over texts b tables k profile window sw x t p few f low high may stands ranks bound =
+    let c = config_of texts b tables k window in
+    record {
+      ranks_are = ranks;
+      bound_is = bound;
+      planned = planned_over texts b tables k profile window sw t p few f low high may;
+      reached = ([], refl);
+      stands = stands (folded texts b tables c t refl);
+    }
+
+-- its switch is new for the workers
+pub over_is : (texts : List (List ℕ)) (b : Bound) (tables : List TableValue) (k : PlanKind) (window : ℕ) (sw : Switching) → MayBegin texts b k (length (parts_of texts b tables)) sw
+    → let g = (begun_over texts b tables k window sw).given in sw ≡ fresh g.program g.begun g.slot (workers g.config)
+over_is texts b tables k window sw may = may.is_new ∙ ap (λ m. fresh sw.program sw.registers sw.slot m) (sym (length-map (parts_of texts b tables) rows_in))
 
 pub answers : (texts : List (List ℕ)) (b : Bound) (tables : List TableValue) (k : PlanKind) (profile : Profile) (window : ℕ) → AreTables texts b tables → IsPlanOf k b profile → IsPass (kind_times k)
     → let c = config_of texts b tables k window in (s : State) → IsReached c s → stopped c s ≡ true

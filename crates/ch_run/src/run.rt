@@ -1,4 +1,4 @@
-ghost use Rattle.std.specs.Prelude.{◌≡◌, ◌≤◌, ◌+◌, true, false, IfOk, OnOk, OnErr};
+ghost use Rattle.std.specs.Prelude.{◌≡◌, ◌≤◌, ◌+◌, true, false, length, IfOk, OnOk, OnErr};
 ghost use Rattle.ch_finish.specs.Fold.{is_folded};
 ghost use Rattle.ch_ir.specs.declared.profile.Profile.{Profile};
 ghost use Rattle.ch_parts.specs.Scanned.{AreTables, parts_of};
@@ -10,7 +10,7 @@ ghost use Rattle.ch_schedule.specs.Bad.{is_forged};
 ghost use Rattle.ch_schedule.specs.Event.{event_of};
 ghost use Rattle.ch_survival.specs.Asked.{answer_arrived};
 ghost use Rattle.ch_engine.specs.Stands.{HasEpoch};
-ghost use Rattle.ch_run.specs.Asked.{AreFew, begun_of};
+ghost use Rattle.ch_run.specs.Asked.{AreFew, MayBegin, begun_of, begun_over};
 ghost use Rattle.ch_run.specs.Runs.{Begun, IsRunOf, LeadsTo};
 
 use ch_cells::{Answer, Memory};
@@ -73,6 +73,31 @@ impl<'a> Run<'a> {
         let parts = new_parts(alloc, tables, bound, ranks)?;
         let switch = Switch::new(alloc, checked, parts.workers() as u32)?;
         let engine = begin(alloc, parts, bound, ranks, passes == 2, window, switch)?;
+        Ok(Run { engine })
+    }
+
+    /// A run at its start over a switch as it stands, whose program may serve several queries. A refused one gives up what it
+    /// took.
+    pub fn start_over(
+        alloc: Global,
+        tables: &'a [Table],
+        bound: &'a Bound,
+        ranks: &'a Ranks,
+        plan: &Planned,
+        window: u32,
+        switch: Switch,
+    ) -> Result<Run<'a>, Memory>
+        requires tables { AreTables ranks.now bound.now tables.now }
+        requires plan { (profile : Profile) × IsPlanOf plan.now.kind bound.now profile }
+        requires carried { greatest_length bound.now.carried ≤ 16 }
+        requires window { 1 ≤ window }
+        requires few { AreFew (parts_of ranks.now bound.now tables.now) }
+        requires folded { is_folded bound.now.shape ≡ true }
+        requires switch { MayBegin ranks.now bound.now plan.now.kind (length (parts_of ranks.now bound.now tables.now)) switch }
+        ensures { let q = begun_over ranks.now bound.now tables.now plan.now.kind window switch in IfOk result (λ run. IsRunOf q run (start q.given.config)) }
+    {
+        let parts = new_parts(alloc, tables, bound, ranks)?;
+        let engine = begin(alloc, parts, bound, ranks, plan.passes == 2, window, switch)?;
         Ok(Run { engine })
     }
 
