@@ -1,6 +1,6 @@
 -- Events one after the other, and their notes.
 use Rattle.std.proofs.Common.{◌≡◌, ℕ, zero, suc, ◌+◌, true, false, List, [], ◌∷◌, ◌++◌, map, replicate, refl, ap, sym, ◌∙◌, arith, subst}
-use Rattle.std.specs.Prelude.{OnErr, Result, Ok, Err}
+use Rattle.std.specs.Prelude.{OnErr, Result, Ok, Err, Option, Some, None}
 use Rattle.std.proofs.lemmas.List.{append-nil}
 use Rattle.ch_protocol.specs.Sets.{numbers_from}
 use Rattle.ch_protocol.specs.Machine.{Config, State, Event, can_send, step, run, stopped}
@@ -10,73 +10,108 @@ use Rattle.ch_protocol.specs.Drain.{drain, round}
 use Rattle.ch_protocol.specs.DrainEvents.{back_events, drain_events, round_events, rounds_events, send_events, turn_events, turns_events}
 use Rattle.ch_protocol_laws.proofs.DrainEvents.{run_append, run_drain, run_turn, run_round}
 use Rattle.ch_protocol_laws.proofs.Fuel.{round_stopped}
+use Rattle.ch_trace_lines.specs.declared.line.Noted.{Noted}
 use Rattle.ch_engine.specs.declared.engine.Engine.{Engine}
-use Rattle.ch_run.specs.Making.{Makes, round_of}
+use Rattle.ch_trace_lines.specs.Trace.{step_of}
+use Rattle.ch_run.specs.Making.{Makes, Noting, more_notes, note_of, notes_of, round_of}
 use Rattle.ch_run.specs.Runs.{Begun, IsRunOf, LeadsOn, LeadsTo}
 
 appended : {X : Type 0} (xs ys zs : List X) → (xs ++ ys) ++ zs ≡ xs ++ (ys ++ zs)
 appended [] ys zs = refl
 appended (x ∷ xs) ys zs = ap (λ us. x ∷ us) (appended xs ys zs)
 
+-- the notes of events and of more events
+notes_append : (c : Config) (es fs : List Event) (s : State) → notes_of c (es ++ fs) s ≡ notes_of c es s ++ notes_of c fs (run c es s)
+notes_append c [] fs s = refl
+notes_append c (e ∷ es) fs s = ap (λ ns. note_of c s (step_of e) ∷ ns) (notes_append c es fs (step c s e))
+
+none_more : (c : Config) (s : State) (notes : Option (List Noted)) → notes ≡ more_notes c [] s notes
+none_more c s None = refl
+none_more c s (Some ns) = ap (λ (ms : List Noted). Some ms) (sym (append-nil ns))
+
+more_more : (c : Config) (es fs : List Event) (s : State) (notes : Option (List Noted)) → more_notes c fs (run c es s) (more_notes c es s notes) ≡ more_notes c (es ++ fs) s notes
+more_more c es fs s None = refl
+more_more c es fs s (Some ns) = ap (λ (ms : List Noted). Some ms) (appended ns (notes_of c es s) (notes_of c fs (run c es s)) ∙ ap (λ (ms : List Noted). ns ++ ms) (sym (notes_append c es fs s)))
+
+-- some events were made, and then others
+then_made : (q : Begun) (x y z : Noting) (es fs : List Event) (s : State) → (y.1 ≡ more_notes q.given.config es s x.1)
+    → IsRunOf q z.0 (run q.given.config fs (run q.given.config es s)) × (z.1 ≡ more_notes q.given.config fs (run q.given.config es s) y.1)
+    → IsRunOf q z.0 (run q.given.config (es ++ fs) s) × (z.1 ≡ more_notes q.given.config (es ++ fs) s x.1)
+then_made q x y z es fs s a b =
+    let c = q.given.config in (
+      subst (λ (t : State). IsRunOf q z.0 t) (sym (run_append c es fs s)) b.0,
+      b.1 ∙ (ap (more_notes c fs (run c es s)) a ∙ more_more c es fs s x.1),
+    )
+
+-- the same of the same events
+same_made : (q : Begun) (x y : Noting) (es fs : List Event) (s : State) → es ≡ fs → IsRunOf q y.0 (run q.given.config es s) × (y.1 ≡ more_notes q.given.config es s x.1)
+    → IsRunOf q y.0 (run q.given.config fs s) × (y.1 ≡ more_notes q.given.config fs s x.1)
+same_made q x y es fs s e a = subst (λ (gs : List Event). IsRunOf q y.0 (run q.given.config gs s) × (y.1 ≡ more_notes q.given.config gs s x.1)) e a
+
 -- one after the other
-pub then_makes : (x y z : Engine) (f k h : Config → State → List Event) → Makes x y f → Makes y z k → ((c : Config) (s : State) → f c s ++ k c (run c (f c s) s) ≡ h c s) → Makes x z h
+pub then_makes : (x y z : Noting) (f k h : Config → State → List Event) → Makes x y f → Makes y z k → ((c : Config) (s : State) → f c s ++ k c (run c (f c s) s) ≡ h c s) → Makes x z h
 then_makes x y z f k h a b e q s r =
     let c = q.given.config in
-    subst (λ (es : List Event). IsRunOf q z (run c es s)) (e c s)
-    (subst (λ (t : State). IsRunOf q z t) (sym (run_append c (f c s) (k c (run c (f c s) s)) s)) (b q (run c (f c s) s) (a q s r)))
+    let one = a q s r in
+    let t = run c (f c s) s in
+    same_made q x z (f c s ++ k c t) (h c s) s (e c s) (then_made q x y z (f c s) (k c t) s one.1 (b q t one.0))
 
-pub then_leads : (x y z : Engine) (f : Config → State → List Event) → Makes x y f → LeadsOn y z → LeadsOn x z
+pub then_leads : (x y z : Noting) (f : Config → State → List Event) → Makes x y f → LeadsOn y.0 z.0 → LeadsOn x.0 z.0
 then_leads x y z f a b q s r =
     let c = q.given.config in
-    let o = b q (run c (f c s) s) (a q s r) in
-    (f c s ++ o.0, subst (λ (t : State). IsRunOf q z t) (sym (run_append c (f c s) o.0 s)) o.1)
+    let o = b q (run c (f c s) s) (a q s r).0 in
+    (f c s ++ o.0, subst (λ (t : State). IsRunOf q z.0 t) (sym (run_append c (f c s) o.0 s)) o.1)
 
 -- The run has made some events, which with the rest are the whole
-abbrev pub IsOnTheWay : Engine → Engine → (Config → State → List Event) → (Config → State → List Event) → Type 0
-IsOnTheWay old new rest whole = (q : Begun) (s : State) → IsRunOf q old s
-    → (es : List Event) × IsRunOf q new (run q.given.config es s) × (es ++ rest q.given.config (run q.given.config es s) ≡ whole q.given.config s)
+pub record IsBetween (q : Begun) (x y : Noting) (s : State) (rest whole : Config → State → List Event) : Type 0 where
+  pub events : List Event
+  pub made : IsRunOf q y.0 (run q.given.config events s) × (y.1 ≡ more_notes q.given.config events s x.1)
+  pub is : events ++ rest q.given.config (run q.given.config events s) ≡ whole q.given.config s
 
-pub way_init : (x : Engine) (rest whole : Config → State → List Event) → ((c : Config) (s : State) → rest c s ≡ whole c s) → IsOnTheWay x x rest whole
-way_init x rest whole e q s r = ([], r, e q.given.config s)
+abbrev pub IsOnTheWay : Noting → Noting → (Config → State → List Event) → (Config → State → List Event) → Type 0
+IsOnTheWay x y rest whole = (q : Begun) (s : State) → IsRunOf q x.0 s → IsBetween q x y s rest whole
 
-pub way_more : (x y z : Engine) (f rest rest' whole : Config → State → List Event) → IsOnTheWay x y rest whole → Makes y z f
-    → ((q : Begun) (t : State) → IsRunOf q y t → rest q.given.config t ≡ f q.given.config t ++ rest' q.given.config (run q.given.config (f q.given.config t) t)) → IsOnTheWay x z rest' whole
+pub way_init : (x : Noting) (rest whole : Config → State → List Event) → ((c : Config) (s : State) → rest c s ≡ whole c s) → IsOnTheWay x x rest whole
+way_init x rest whole e q s r = record { events = []; made = (r, none_more q.given.config s x.1); is = e q.given.config s }
+
+pub way_more : (x y z : Noting) (f rest rest' whole : Config → State → List Event) → IsOnTheWay x y rest whole → Makes y z f
+    → ((q : Begun) (t : State) → IsRunOf q y.0 t → rest q.given.config t ≡ f q.given.config t ++ rest' q.given.config (run q.given.config (f q.given.config t) t)) → IsOnTheWay x z rest' whole
 way_more x y z f rest rest' whole a b one q s r =
     let c = q.given.config in
     let w = a q s r in
-    let t = run c w.0 s in
-    let fs = f c t in (
-      w.0 ++ fs,
-      subst (λ (u : State). IsRunOf q z u) (sym (run_append c w.0 fs s)) (b q t w.1),
-      ap (λ (u : State). (w.0 ++ fs) ++ rest' c u) (run_append c w.0 fs s) ∙ (appended w.0 fs (rest' c (run c fs t)) ∙ (ap (λ (es : List Event). w.0 ++ es) (sym (one q t w.1)) ∙ w.2)),
-    )
+    let t = run c w.events s in
+    let fs = f c t in
+    record {
+      events = w.events ++ fs;
+      made = then_made q x y z w.events fs s w.made.1 (b q t w.made.0);
+      is = ap (λ (u : State). (w.events ++ fs) ++ rest' c u) (run_append c w.events fs s) ∙ (appended w.events fs (rest' c (run c fs t)) ∙ (ap (λ (es : List Event). w.events ++ es) (sym (one q t w.made.0)) ∙ w.is));
+    }
 
-pub way_end : (x y : Engine) (rest whole : Config → State → List Event) → IsOnTheWay x y rest whole → ((q : Begun) (t : State) → IsRunOf q y t → rest q.given.config t ≡ []) → Makes x y whole
+pub way_end : (x y : Noting) (rest whole : Config → State → List Event) → IsOnTheWay x y rest whole → ((q : Begun) (t : State) → IsRunOf q y.0 t → rest q.given.config t ≡ []) → Makes x y whole
 way_end x y rest whole a done q s r =
     let w = a q s r in
-    let e : w.0 ≡ whole q.given.config s = sym (append-nil w.0) ∙ (ap (λ (es : List Event). w.0 ++ es) (sym (done q (run q.given.config w.0 s) w.1)) ∙ w.2) in
-    subst (λ (es : List Event). IsRunOf q y (run q.given.config es s)) e w.1
+    let e : w.events ≡ whole q.given.config s = sym (append-nil w.events) ∙ (ap (λ (es : List Event). w.events ++ es) (sym (done q (run q.given.config w.events s) w.made.0)) ∙ w.is) in
+    same_made q x y w.events (whole q.given.config s) s e w.made
 
-pub way_fails : (x y z : Engine) (rest whole : Config → State → List Event) → IsOnTheWay x y rest whole → LeadsOn y z → LeadsOn x z
+pub way_fails : (x y z : Noting) (rest whole : Config → State → List Event) → IsOnTheWay x y rest whole → LeadsOn y.0 z.0 → LeadsOn x.0 z.0
 way_fails x y z rest whole a b q s r =
     let c = q.given.config in
     let w = a q s r in
-    let o = b q (run c w.0 s) w.1 in
-    (w.0 ++ o.0, subst (λ (t : State). IsRunOf q z t) (sym (run_append c w.0 o.0 s)) o.1)
+    let o = b q (run c w.events s) w.made.0 in
+    (w.events ++ o.0, subst (λ (t : State). IsRunOf q z.0 t) (sym (run_append c w.events o.0 s)) o.1)
 
 -- the whole is said otherwise
-pub makes_same : (x y : Engine) (f k : Config → State → List Event) → Makes x y f → ((q : Begun) (s : State) → IsRunOf q x s → f q.given.config s ≡ k q.given.config s) → Makes x y k
-makes_same x y f k a e q s r = subst (λ (es : List Event). IsRunOf q y (run q.given.config es s)) (e q s r) (a q s r)
+pub makes_same : (x y : Noting) (f k : Config → State → List Event) → Makes x y f → ((q : Begun) (s : State) → IsRunOf q x.0 s → f q.given.config s ≡ k q.given.config s) → Makes x y k
+makes_same x y f k a e q s r = same_made q x y (f q.given.config s) (k q.given.config s) s (e q s r) (a q s r)
 
--- one event
-pub one_makes : (x y : Engine) (e : Event) → LeadsTo x y (λ c s. step c s e) → Makes x y (λ c s. e ∷ [])
-one_makes x y e a q s r = a q s r
+pub one_leads : (x y : Engine) (e : Event) → LeadsTo x y (λ c s. step c s e) → LeadsOn x y
+one_leads x y e a q s r = (e ∷ [], a q s r)
 
 pub none_leads : (x y : Engine) → LeadsTo x y (λ c s. s) → LeadsOn x y
 none_leads x y a q s r = ([], a q s r)
 
-pub drained : (x y : Engine) → Makes x y (λ c s. drain_events c s) → LeadsTo x y (λ c s. drain c s)
-drained x y a q s r = subst (λ (t : State). IsRunOf q y t) (run_drain q.given.config s) (a q s r)
+pub drained : (y : Engine) (q : Begun) (s : State) → IsRunOf q y (run q.given.config (drain_events q.given.config s) s) → IsRunOf q y (drain q.given.config s)
+drained y q s r = subst (λ (t : State). IsRunOf q y t) (run_drain q.given.config s) r
 
 pub on_err : {A E : Type 0} {P : Type 0} (r : Result A E) → P → OnErr r P
 on_err (Ok a) p = tt

@@ -9,3 +9,5 @@ pub mod Epochs
 pub mod Followed
 pub mod Reporting
 pub mod Scheduling
+pub mod Tracing
+pub mod Carrying

@@ -8,7 +8,7 @@ use Rattle.ch_survival.specs.Given.{no_part}
 use Rattle.ch_stands.proofs.Progressing.{acked_same, may_same, number_is, no_number}
 use Rattle.ch_engine.proofs.Sending.{many_parts, rows_many, stands_at}
 use Rattle.ch_engine.specs.declared.engine.Engine.{Engine}
-use Rattle.ch_run.specs.Making.{Makes}
+use Rattle.ch_run.specs.Making.{Makes, Noting}
 use Rattle.ch_run.specs.Runs.{Begun, IsRunOf, IsRunning, LeadsOn, LeadsTo}
 use Rattle.ch_run.proofs.Going.{same_team}
 
@@ -48,10 +48,10 @@ most_small e x w rows r v lt is =
     omega (arith, n, is, small)
 
 -- no worker comes or goes
-pub team_made : (e x y : Engine) (f : Config → State → List Event) → IsRunning e → e ≡ x → Makes x y f → length y.workers.items ≡ length x.workers.items
+pub team_made : (e : Engine) (x y : Noting) (f : Config → State → List Event) → IsRunning e → e ≡ x.0 → Makes x y f → length y.0.workers.items ≡ length x.0.workers.items
 team_made e x y f r v a =
     let x_runs = subst IsRunning v r in
-    same_team x_runs.begun x y x_runs.state (run x_runs.begun.given.config (f x_runs.begun.given.config x_runs.state) x_runs.state) x_runs.is (a x_runs.begun x_runs.state x_runs.is)
+    same_team x_runs.begun x.0 y.0 x_runs.state (run x_runs.begun.given.config (f x_runs.begun.given.config x_runs.state) x_runs.state) x_runs.is (a x_runs.begun x_runs.state x_runs.is).0
 
 pub team_lead : (e x y : Engine) → IsRunning e → e ≡ x → LeadsOn x y → length y.workers.items ≡ length x.workers.items
 team_lead e x y r v a =

@@ -1,7 +1,7 @@
 -- The state of the protocol that a run is in.
-use Rattle.std.specs.Prelude.{◌≡◌, ℕ, List}
+use Rattle.std.specs.Prelude.{◌≡◌, ℕ, false, List}
 use Rattle.ch_pred.specs.declared.bound.Bound.{Bound}
-use Rattle.ch_protocol.specs.Machine.{Config, State, Event, IsReached, run}
+use Rattle.ch_protocol.specs.Machine.{Config, State, Event, IsReached, run, stopped}
 use Rattle.ch_survival.specs.Given.{Given, IsPlanned}
 use Rattle.ch_engine.specs.Stands.{Stands}
 use Rattle.ch_engine.specs.declared.engine.Engine.{Engine}
@@ -33,3 +33,7 @@ LeadsTo old new f = (q : Begun) (s : State) → IsRunOf q old s → IsRunOf q ne
 -- the new one is in what some events make of it
 abbrev pub LeadsOn : Engine → Engine → Type 0
 LeadsOn old new = (q : Begun) (s : State) → IsRunOf q old s → (events : List Event) × IsRunOf q new (run q.given.config events s)
+
+-- the run hasn't stopped
+abbrev pub IsGoing : Engine → Type 0
+IsGoing x = (q : Begun) (s : State) → IsRunOf q x s → stopped q.given.config s ≡ false

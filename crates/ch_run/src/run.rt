@@ -4,6 +4,7 @@ ghost use Rattle.ch_ir.specs.declared.profile.Profile.{Profile};
 ghost use Rattle.ch_parts.specs.Scanned.{AreTables, parts_of};
 ghost use Rattle.ch_plan.specs.Kinds.{IsPlanOf};
 ghost use Rattle.ch_plan.specs.Needs.{greatest_length};
+ghost use Rattle.ch_protocol.specs.Fates.{event_fate};
 ghost use Rattle.ch_protocol.specs.Machine.{State, start, step, stopped, passes};
 ghost use Rattle.ch_protocol.specs.Received.{rows_arrived};
 ghost use Rattle.ch_schedule.specs.Bad.{is_forged};
@@ -17,6 +18,7 @@ use ch_cells::{Answer, Memory};
 use ch_engine::{Engine, begin};
 use ch_plan::Planned;
 use ch_pred::Bound;
+use ch_protocol::NoteFate;
 use ch_ranks::Ranks;
 use ch_schedule::Step;
 use ch_sources::new_parts;
@@ -109,8 +111,21 @@ impl<'a> Run<'a> {
         ensures err { OnErr result (LeadsTo self.old self.new (λ c s. s)) }
         ensures epoch { self.new.switch.epoch ≤ self.old.switch.epoch + 1 }
     {
-        self.engine.step(event)?;
+        self.act(event)?;
         Ok(())
+    }
+
+    // One step, with what becomes of it.
+    pub(crate) fn act(&mut self, event: &Step) -> Result<NoteFate, Memory>
+        requires epoch { HasEpoch event.now self.old.switch.epoch }
+        requires unforged { is_forged event.now ≡ false }
+        ensures ok { OnOk result (LeadsTo self.old self.new (λ c s. step c s (event_of event.now))) }
+        ensures fate { (q : Begun) (s : State) → IsRunOf q self.old s → stopped q.given.config s ≡ false → IfOk result (λ f. f ≡ event_fate q.given.config s (event_of event.now)) }
+        ensures err { OnErr result (LeadsTo self.old self.new (λ c s. s)) }
+        ensures epoch { self.new.switch.epoch ≤ self.old.switch.epoch + 1 }
+    {
+        let fate = self.engine.step(event)?;
+        Ok(fate)
     }
 
     /// Whether the last pass is confirmed. Takes no memory.

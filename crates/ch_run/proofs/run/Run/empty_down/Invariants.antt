@@ -5,4 +5,4 @@ use Rattle.ch_run.proofs.Leading.{IsOnTheWay}
 use Rattle.ch_run.proofs.run.Run.empty_down.Given as goal
 
 abbrev pub invariant-loop-done : goal.invariant-loop-done
-invariant-loop-done l = IsOnTheWay l.fn.self l.self (λ c t. replicate (l.count - l.done) (Down 0 Take)) (λ c s. replicate l.count (Down 0 Take))
+invariant-loop-done l = IsOnTheWay (l.fn.self, l.fn.notes) (l.self, l.notes) (λ c t. replicate (l.count - l.done) (Down 0 Take)) (λ c s. replicate l.count (Down 0 Take))
