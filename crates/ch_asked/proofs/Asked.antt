@@ -8,7 +8,6 @@ use Rattle.std.specs.Ordering.{is_lt}
 use Rattle.std.proofs.lemmas.Bool.{cases_lt, le-leb, lt-ltb}
 use Rattle.std.proofs.lemmas.List.{get_or-map, get_or_past, length-map}
 use Rattle.std.proofs.lemmas.List.Folds.{list_any-append}
-use Rattle.std.proofs.lemmas.Slice.Eq.{bytes_eq-Decides}
 use Rattle.ch_cells.specs.Number.{greatest_magnitude}
 use Rattle.ch_cells.specs.declared.Cell.{Cell}
 use Rattle.ch_cells.specs.declared.Cell.TheVariants as cell

@@ -1,9 +1,8 @@
 -- How many workers a query has, and how many rows each of them.
-use Rattle.std.proofs.Common.{◌≡◌, ℕ, zero, suc, ◌+◌, ◌*◌, ◌^◌, ◌<◌, ◌≤◌, All, Bool, true, false, cond, eqb, eq-eqb, List, [], ◌∷◌, ◌++◌, map, length, refl, sym, ◌∙◌, ap, inl, inr, subst, arith}
+use Rattle.std.proofs.Common.{◌≡◌, ℕ, zero, suc, ◌+◌, ◌*◌, ◌^◌, ◌<◌, ◌≤◌, All, Bool, true, false, cond, eq-eqb, List, [], ◌∷◌, map, length, refl, sym, ap, inl, inr, subst, arith}
 use Rattle.std.specs.Prelude.{flat_map, slice_index, slice_index_or, ◌==◌}
 use Rattle.std.proofs.Math.Nat.{mul-suc}
 use Rattle.std.proofs.lemmas.List.{length-append, length-map}
-use Rattle.ch_cells.specs.declared.Cell.{Cell}
 use Rattle.ch_lists.specs.Members.{Each, In}
 use Rattle.ch_lists.proofs.Members.{Each-from_All, In-append, In-map}
 use Rattle.ch_pred.specs.Sound.{IsSound, has_one_table}

@@ -1,5 +1,5 @@
 -- A query that binding gives can be planned.
-use Rattle.std.proofs.Common.{◌≡◌, ◌≢◌, ℕ, ◌<◌, ◌≤◌, Bool, true, false, cond, ◌||◌, List, [], ◌∷◌, ◌++◌, map, length, Option, Some, None, refl, sym, ◌∙◌, ap, inl, inr, subst, arith}
+use Rattle.std.proofs.Common.{◌≡◌, ◌≢◌, ℕ, ◌≤◌, Bool, true, false, cond, ◌||◌, List, [], ◌∷◌, ◌++◌, map, length, Option, Some, None, refl, sym, ◌∙◌, ap, inl, inr, subst, arith}
 use Rattle.std.specs.Prelude.{ℤ, pos, negsuc, nat_abs, nat_lt, int_lt, ◌==◌}
 use Rattle.std.specs.List.{All}
 use Rattle.std.proofs.lemmas.Bool.{le-leb}
@@ -8,7 +8,7 @@ use Rattle.std.proofs.lemmas.List.{length-map}
 use Rattle.ch_cells.specs.Number.{greatest_magnitude}
 use Rattle.ch_lists.specs.Members.{Each, In}
 use Rattle.ch_lists.proofs.Members.{Each-from_All, In-left, In-map, In-map_from, In-right}
-use Rattle.ch_pred.specs.Named.{inner_cols, named, outer_named, pred_cols, printed_cols, shape_cols}
+use Rattle.ch_pred.specs.Named.{inner_cols, outer_named, pred_cols, printed_cols, shape_cols}
 use Rattle.ch_pred.specs.Plain.{plain_of}
 use Rattle.ch_pred.specs.Sound.{AreSided, IsCarried, IsSound, has_one_table}
 use Rattle.ch_pred.specs.declared.bound.Bound.{Bound}
@@ -27,7 +27,6 @@ use Rattle.ch_sql_grammar.specs.Keyword.{keyword_of}
 use Rattle.ch_sql_grammar.specs.Tree.{Select}
 use Rattle.ch_sql_grammar.specs.declared.query.Having.{Having}
 use Rattle.ch_sql_grammar.specs.declared.query.Item.{Item}
-use Rattle.ch_sql_grammar.specs.declared.query.SkyDim.{SkyDim}
 use Rattle.ch_sql_grammar.specs.declared.query.Source.{Source}
 use Rattle.ch_sql_grammar.specs.declared.query.Source.TheVariants as source
 use Rattle.ch_sql_grammar.specs.declared.query.Tail.{Tail}
