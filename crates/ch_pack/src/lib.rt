@@ -1,0 +1,5 @@
+//! Planned programs packed into one, which a selector word selects.
+#![tactic(auto)]
+
+mod ops;
+mod stages;
