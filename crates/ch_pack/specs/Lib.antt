@@ -1,1 +1,3 @@
 pub mod Small
+pub mod Plans
+pub mod Worked

@@ -83,7 +83,9 @@ fn guarded(alloc: Global, seat: Seat, guard: u32, accesses: &[Access]) -> Result
         let chosen = Operand::Word(seat.chosen);
         let own = moved_operand(seat, access.guard);
         stage.ops.push(Op::Two(guard, Binary::And, chosen, own))?;
-        stage.accesses.push(moved_access(alloc, seat, guard, access)?)?;
+        stage
+            .accesses
+            .push(moved_access(alloc, seat, guard, access)?)?;
     }
     Ok(stage)
 }

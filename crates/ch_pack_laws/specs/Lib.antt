@@ -14,3 +14,4 @@ pub mod Lawful
 pub mod LawfulPlans
 pub mod Needs
 pub mod Measured
+pub mod Handing

@@ -7,6 +7,7 @@ ghost use Rattle.ch_ir.specs.Rules.{BreaksNoRule};
 ghost use Rattle.ch_ir.specs.declared.program.Program.{Program};
 ghost use Rattle.ch_prune.specs.Needs.{IsWithin};
 ghost use Rattle.ch_prune.specs.declared.operator.Need.{Need};
+ghost use Rattle.ch_pack_laws.specs.Handing.{AgreesPacked};
 ghost use Rattle.ch_pack_laws.specs.Needs.{AllWithin, packed_need};
 ghost use Rattle.ch_pack_laws.specs.Packed.{bases_from, packed, selector_of};
 ghost use Rattle.ch_pack_laws.specs.Packs.{Packs};
@@ -26,6 +27,11 @@ pub struct Seat {
 /// On words whose selector word is a program's number, a step of the packed program is a step of that program alone.
 pub fn packed_steps()
     ensures { (ps : List Program) → AllUnbroken ps → Packs ps (packed ps) (selector_of ps) (bases_from 0 ps) }
+{}
+
+/// A policy's verdicts that a program has alone it has when it is packed, from any registers of the others.
+pub fn packed_agrees()
+    ensures { AgreesPacked }
 {}
 
 /// Programs that break no rule, packed, break none.
