@@ -1,1 +1,4 @@
+pub mod Ranges
+pub mod Records
 pub mod Schedules
+pub mod Tables

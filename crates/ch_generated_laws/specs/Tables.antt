@@ -1,5 +1,5 @@
 -- The tables that are drawn.
-use Rattle.std.specs.Prelude.{ℕ, List, [], ◌∷◌, map, codes, pos}
+use Rattle.std.specs.Prelude.{ℕ, List, [], ◌∷◌, map, codes, pos, ◌<◌, ◌≤◌, ◌^◌}
 use Rattle.rand_pcg.specs.Lcg.{Lcg}
 use Rattle.ch_cells.specs.declared.cell.Cell.{Cell}
 use Rattle.ch_cells.specs.declared.cell.Cell.TheVariants as cell
@@ -39,3 +39,9 @@ u_table generator = record {
   kinds = kind.Number ∷ kind.Number ∷ [];
   parts = map cells_of (u_rows 100 generator) ∷ [];
 }
+
+-- a request as words may ask for it
+pub record IsInRange (request : Request) : Type 0 where
+  pub seed : request.seed < 2 ^ 64
+  pub some : 1 ≤ request.rows
+  pub few : request.rows ≤ 1000000

@@ -3,4 +3,4 @@
 
 mod laws;
 
-pub use laws::generated_schedules_are_read;
+pub use laws::{generated_schedules_are_read, generated_tables_are_read, requests_are_in_range};
