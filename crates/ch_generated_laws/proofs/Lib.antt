@@ -1,3 +1,5 @@
+pub mod Binding
+pub mod Queries
 pub mod Ranges
 pub mod Records
 pub mod Schedules

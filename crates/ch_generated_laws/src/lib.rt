@@ -3,4 +3,7 @@
 
 mod laws;
 
-pub use laws::{generated_schedules_are_read, generated_tables_are_read, requests_are_in_range};
+pub use laws::{
+    generated_queries_are_bound, generated_queries_are_planned, generated_queries_are_spelled,
+    generated_schedules_are_read, generated_tables_are_read, requests_are_in_range,
+};
