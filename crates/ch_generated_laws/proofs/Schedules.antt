@@ -37,7 +37,7 @@ digit_line : (name : List ℕ) (n : ℕ) → n < 10 → numbered_line name n ≡
 digit_line name n h = ap (λ (ds : List ℕ). name ++ (ds ++ 10 ∷ [])) (decimal_digit n h)
 
 -- what holds of each number below five, and of each below eight
-below_five : (P : ℕ → Type 0) → P 0 → P 1 → P 2 → P 3 → P 4 → (n : ℕ) → n < 5 → P n
+pub below_five : (P : ℕ → Type 0) → P 0 → P 1 → P 2 → P 3 → P 4 → (n : ℕ) → n < 5 → P n
 below_five P a b c d e zero h = a
 below_five P a b c d e (suc zero) h = b
 below_five P a b c d e (suc (suc zero)) h = c
@@ -45,7 +45,7 @@ below_five P a b c d e (suc (suc (suc zero))) h = d
 below_five P a b c d e (suc (suc (suc (suc zero)))) h = e
 below_five P a b c d e (suc (suc (suc (suc (suc n))))) h = absurd (omega arith)
 
-below_eight : (P : ℕ → Type 0) → ((n : ℕ) → n < 5 → P n) → P 5 → P 6 → P 7 → (n : ℕ) → n < 8 → P n
+pub below_eight : (P : ℕ → Type 0) → ((n : ℕ) → n < 5 → P n) → P 5 → P 6 → P 7 → (n : ℕ) → n < 8 → P n
 below_eight P less f g h zero lt = less 0 (lit< tt)
 below_eight P less f g h (suc zero) lt = less 1 (lit< tt)
 below_eight P less f g h (suc (suc zero)) lt = less 2 (lit< tt)
@@ -88,7 +88,7 @@ line_says workers g few = below_eight (λ number. IsStepLine (line_of workers nu
     (record { bytes = codes "back 0"; text_is = refl; inner = refl; bare = refl; said = refl; plain = refl })
     (record { bytes = codes "up 0 lose"; text_is = refl; inner = refl; bare = refl; said = refl; plain = refl })
 
-few_workers : (kind : InputKind) (g : Lcg) → drawn (workers_of kind) g < 5
+pub few_workers : (kind : InputKind) (g : Lcg) → drawn (workers_of kind) g < 5
 few_workers Filter g = omega arith
 few_workers Distinct g = omega arith
 few_workers Top g = omega arith

@@ -193,14 +193,14 @@ part_cons : (b : Bool) (part place : ℕ) (row : TableRow) (rows : List TableRow
 part_cons true part place row rows e = rw e refl
 part_cons false part place row rows e = rw e refl
 
-abbrev part_fields : ℕ → ℕ → List TableRow → List (List ℕ)
+abbrev pub part_fields : ℕ → ℕ → List TableRow → List (List ℕ)
 part_fields part place rows = map t_fields (part_from part place rows)
 
 kept_rows : (b : Bool) (row : TableRow) (rest : List TableRow) → IsSmallRow row → AreRows 3 (map t_fields rest) → AreRows 3 (map t_fields (cond b (row ∷ rest) rest))
 kept_rows true row rest r are = (r, are)
 kept_rows false row rest r are = are
 
-part_rows_are : (part place : ℕ) (rows : List TableRow) → AllByRecursion IsSmallRow rows → AreRows 3 (part_fields part place rows)
+pub part_rows_are : (part place : ℕ) (rows : List TableRow) → AllByRecursion IsSmallRow rows → AreRows 3 (part_fields part place rows)
 part_rows_are part place [] small = tt
 part_rows_are part place (row ∷ rows) small =
     subst (λ (rs : List TableRow). AreRows 3 (map t_fields rs)) (sym (part_cons (place % 4 == part) part place row rows refl))
@@ -284,11 +284,11 @@ unfolding u_row
 rows_2_from g [] = tt
 rows_2_from g (r ∷ rs) = (record { wide = refl; small = (omega arith, (omega arith, tt)) }, rows_2_from g rs)
 
-u_rows_are : (n : ℕ) (g : Lcg) → AreRows 2 (u_rows n g)
+pub u_rows_are : (n : ℕ) (g : Lcg) → AreRows 2 (u_rows n g)
 unfolding u_rows
 u_rows_are n g = rows_2_from g (range_with_len 0 n)
 
-u_rows_len : (n : ℕ) (g : Lcg) → length (u_rows n g) ≡ n
+pub u_rows_len : (n : ℕ) (g : Lcg) → length (u_rows n g) ≡ n
 unfolding u_rows
 u_rows_len n g = length-map-range_with_len (λ r. u_row (after (2 * r) g)) 0 n
 

@@ -1,3 +1,4 @@
 pub mod Queries
+pub mod Sizes
 pub mod Steps
 pub mod Tables

@@ -3,13 +3,14 @@ ghost use Rattle.rand_pcg.specs.Lcg.{Lcg};
 ghost use Rattle.ch_bind.specs.Binding.{bound_of, plain_bound};
 ghost use Rattle.ch_bind.specs.Checks.{bind_refusal};
 ghost use Rattle.ch_bind.specs.Sums.{sum_refusal};
-ghost use Rattle.ch_generated.specs.Inputs.{query_text, schedule_begins, workers_of};
+ghost use Rattle.ch_generated.specs.Inputs.{files_of, query_text, schedule_begins, workers_of};
 ghost use Rattle.ch_generated.specs.Request.{request_of};
 ghost use Rattle.ch_generated.specs.ScheduleText.{schedule_text};
 ghost use Rattle.ch_generated.specs.TableText.{u_text};
 ghost use Rattle.ch_generated.specs.declared.InputKind.{InputKind};
 ghost use Rattle.ch_generated.specs.declared.Request.{Request};
 ghost use Rattle.ch_generated_laws.specs.Queries.{select_of, shapes_of, tables_of};
+ghost use Rattle.ch_generated_laws.specs.Sizes.{AreSmall};
 ghost use Rattle.ch_generated_laws.specs.Steps.{schedule_of};
 ghost use Rattle.ch_generated_laws.specs.Tables.{IsInRange, rows_of, t_table, t_texts, u_table};
 ghost use Rattle.ch_ir.specs.Profile.{default_settings};
@@ -51,4 +52,9 @@ pub fn generated_queries_are_bound()
 /// What a query needs is within the default profile.
 pub fn generated_queries_are_planned()
     ensures { (request : Request) (bound : Bound) → plain_bound bound ≡ bound_of (select_of request.kind) (shapes_of request) → plan_refusal (need_of bound default_settings) default_settings ≡ None }
+{}
+
+/// The files of a request are within the limits of what a command reads.
+pub fn generated_files_are_small()
+    ensures { (request : Request) → IsInRange request → AreSmall (files_of request) }
 {}
