@@ -5,7 +5,7 @@ mod parsed;
 mod table_word;
 mod words;
 
-pub use table_word::TableWord;
+pub use table_word::{TableWord, tables_in};
 pub use words::{Asked, asked_in};
 
 #[cfg(test)]

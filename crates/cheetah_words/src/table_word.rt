@@ -47,7 +47,7 @@ fn bad_word(alloc: Global, at: usize) -> Result<Bytes, Memory>
 }
 
 /// The parts that the words name, at most 64, or the line that refuses them.
-pub(crate) fn tables_in<'a>(
+pub fn tables_in<'a>(
     alloc: Global,
     words: &[&'a str],
 ) -> Result<Listed<TableWord<'a>>, Misuse>

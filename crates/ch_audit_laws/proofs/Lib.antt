@@ -1,0 +1,5 @@
+pub mod Own
+pub mod Same
+pub mod Walks
+pub mod Traces
+pub mod Told
