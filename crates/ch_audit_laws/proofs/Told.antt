@@ -1,5 +1,5 @@
 -- What a walk from the start finds, of the whole text.
-use Rattle.std.proofs.Common.{◌≡◌, subst, inl, inr, ◌⊎◌, ℕ, List, take}
+use Rattle.std.proofs.Common.{◌∙◌, ap, arith, sym, ◌≡◌, subst, inl, inr, ◌⊎◌, ℕ, List, take}
 use Rattle.std.specs.Prelude.{◌==◌}
 use Rattle.ch_protocol.specs.Machine.{Config, start}
 use Rattle.ch_schedule.specs.declared.step.Step.{Step}
@@ -8,6 +8,13 @@ use Rattle.ch_trace_lines.specs.declared.line.Line.{Line}
 use Rattle.ch_audit_laws.specs.Own.{Begins, IsOwn, IsRefusedAt, cut, steps_in}
 use Rattle.ch_audit_laws.specs.Walks.{Walk, walk}
 use Rattle.ch_audit_laws.specs.Walks.Walk.{Whole, Refused}
+use Rattle.std.proofs.lemmas.Bool.{cases_lt}
+use Rattle.ch_lists.specs.Members.{Each}
+use Rattle.ch_trace_lines.proofs.Texts.{text_back, text_is}
+use Rattle.ch_trace_lines.specs.Range.{IsLine}
+use Rattle.ch_trace_lines.specs.Spelling.{lines_text}
+use Rattle.ch_trace_lines.specs.Trace.{IsTrace, trace_lines, trace_text}
+use Rattle.ch_audit_laws.proofs.Traces.{again, fair}
 use Rattle.ch_audit_laws.proofs.Own.{Goes, Starts}
 use Rattle.ch_audit_laws.proofs.Walks.{FailsAt, Finds, walk_finds}
 
@@ -46,3 +53,17 @@ whole c text steps e = let f : Finds c (start c) (cut text) (Whole steps) = subs
 
 pub fails : (c : Config) (text : List ℕ) (line : ℕ) → walk c (start c) (cut text) ≡ Refused line → IsRefusedAt c (cut text) line
 fails c text line e = let f : Finds c (start c) (cut text) (Refused line) = subst (Finds c (start c) (cut text)) e (finds c text) in refused c (cut text) line f
+
+pub one_refused : (c : Config) (texts : List (List ℕ)) (a b : ℕ) → IsRefusedAt c texts a → IsRefusedAt c texts b → a ≡ b
+one_refused c texts a b p q = elim (cases_lt a b) [
+  | inl below ↦ absurd (p.wrong (omega (arith, q.within)) (q.before a below))
+  | inr not_below ↦ elim (cases_lt b a) [ inl above ↦ absurd (q.wrong (omega (arith, p.within)) (p.before b above)) | inr not_above ↦ omega (arith, not_below, not_above) ]
+]
+
+pub own_is_trace : (c : Config) (text : List ℕ) (lines : List Line) → IsOwn c (cut text) lines → IsTrace c text
+own_is_trace c text lines is =
+    let said = text_is text lines is.read in
+    record { steps = steps_in lines; fair = fair lines said.1; is = said.0 ∙ ap lines_text is.own }
+
+pub own_of_trace : (c : Config) (steps : List Step) → Each IsLine (trace_lines c steps) → IsOwn c (cut (trace_text c steps)) (trace_lines c steps)
+own_of_trace c steps lines = record { read = text_back (trace_lines c steps) lines; own = sym (again c (start c) steps) }

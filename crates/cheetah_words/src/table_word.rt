@@ -47,10 +47,7 @@ fn bad_word(alloc: Global, at: usize) -> Result<Bytes, Memory>
 }
 
 /// The parts that the words name, at most 64, or the line that refuses them.
-pub fn tables_in<'a>(
-    alloc: Global,
-    words: &[&'a str],
-) -> Result<Listed<TableWord<'a>>, Misuse>
+pub fn tables_in<'a>(alloc: Global, words: &[&'a str]) -> Result<Listed<TableWord<'a>>, Misuse>
     ensures asks { AsksTables (map (λ s. s.now) words.now) result }
     ensures few { IfOk result (λ tables. length tables ≤ 64) }
 {
