@@ -1,0 +1,4 @@
+pub mod Ranged
+pub mod Configured
+pub mod Asked
+pub mod Ends

@@ -1,0 +1,70 @@
+ghost use Rattle.std.specs.Prelude.{◌≡◌, [], IfOk};
+ghost use Rattle.ch_plan.specs.Kinds.{IsPlanOf};
+ghost use Rattle.ch_print.specs.AnswerText.{text_of};
+ghost use Rattle.ch_print.specs.RunTexts.{counts_line, report};
+ghost use Rattle.ch_protocol.specs.Machine.{State};
+ghost use Rattle.ch_run.specs.Runs.{Begun, IsRunOf};
+ghost use Rattle.cheetah_inputs.specs.Inputs.{given_of};
+ghost use Rattle.cheetah_run.specs.Asking.{AreAsked};
+ghost use Rattle.cheetah_run.specs.Saying.{said_by_run, said_in};
+
+use ch_asked::rank_texts;
+use ch_cells::{Answer, Bytes, Counts, Memory, OpenFlow};
+use ch_command::{Ending, Outcome};
+use ch_plan::Planned;
+use ch_print::{answer_text, counts_text, report_text};
+use ch_run::{Outcome as RunOutcome, Run};
+use cheetah_inputs::Inputs;
+use std::alloc::Global;
+
+/// The answer, and the counts of the run.
+fn say_done(alloc: Global, answer: &Answer, counts: &Counts) -> Result<Outcome, Memory>
+    ensures { IfOk result (λ said. said ≡ record { ending = Ending.Done; out = text_of answer.now; err = counts_line counts.now }) }
+{
+    let out = answer_text(alloc, answer)?;
+    let err = counts_text(alloc, counts)?;
+    Ok(Outcome {
+        ending: Ending::Done,
+        out,
+        err,
+    })
+}
+
+/// The flows that are open, and how many rows the answer over what was received has.
+fn say_open(alloc: Global, flows: &[OpenFlow], partial: usize) -> Result<Outcome, Memory>
+    ensures { IfOk result (λ said. said ≡ record { ending = Ending.Open; out = []; err = report flows.now partial }) }
+{
+    let err = report_text(alloc, flows, partial as u64)?;
+    Ok(Outcome {
+        ending: Ending::Open,
+        out: Bytes::from_vec(Vec::new(alloc)),
+        err,
+    })
+}
+
+/// What is written of a run as it stands.
+fn say(alloc: Global, run: &Run<'_>) -> Result<Outcome, Memory>
+    ensures { (q : Begun) (s : State) → IsRunOf q run.now s → IfOk result (λ said. said ≡ said_in q s) }
+{
+    let answer = run.answer()?;
+    let outcome = run.outcome()?;
+    match &outcome {
+        RunOutcome::Done(counts) => say_done(alloc, &answer, counts),
+        RunOutcome::Open(flows) => say_open(alloc, flows.as_slice(), answer.rows.len()),
+    }
+}
+
+/// Runs a planned query over its tables along its schedule, and says what is written of it. Rows reach the answer through
+/// the links alone.
+pub fn run_query(alloc: Global, inputs: &Inputs, planned: Planned) -> Result<Outcome, Memory>
+    requires asked { AreAsked inputs.now }
+    requires plan { IsPlanOf planned.kind inputs.now.bound inputs.now.profile }
+    ensures { IfOk result (λ said. said ≡ said_by_run (given_of inputs.now)) }
+{
+    let tables = inputs.tables.as_slice();
+    let ranks = rank_texts(alloc, &inputs.bound, tables)?;
+    let window = inputs.profile.window;
+    let mut run = Run::start(alloc, tables, &inputs.bound, &ranks, planned, window)?;
+    run.follow(&inputs.schedule)?;
+    say(alloc, &run)
+}
