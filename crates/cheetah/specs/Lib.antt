@@ -1,4 +1,3 @@
 pub mod Answering
 pub mod Planning
 pub mod Result
-pub mod Selection

@@ -1,5 +1,5 @@
 -- The plan of a query: the first limit that it exceeds, and its program.
-use Rattle.std.specs.Prelude.{ℕ, ◌+◌, List, [], ◌∷◌, Option, codes}
+use Rattle.std.specs.Prelude.{ℕ, List, [], ◌∷◌, Option, codes}
 use Rattle.std.specs.Fmt.{decimal}
 use Rattle.std.specs.List.{concat}
 use Rattle.ch_bind.specs.Binding.{PlainBound}
@@ -7,10 +7,10 @@ use Rattle.ch_command.specs.Lines.{memory_line}
 use Rattle.ch_ir.specs.declared.profile.Profile.{Profile}
 use Rattle.ch_ir.specs.declared.program.Program.{Program}
 use Rattle.ch_messages.specs.Machine.{limit_text}
-use Rattle.ch_plan.specs.Needs.{greatest_length, need_of, plan_refusal}
+use Rattle.ch_plan.specs.Needs.{need_of, plan_refusal}
+use Rattle.ch_plan.specs.Policy.{program_of}
 use Rattle.ch_plan.specs.declared.error.PlanError.{PlanError}
 use Rattle.ch_plan.specs.declared.error.PlanError.TheVariants.{Limit, Memory}
-use Rattle.ch_prune.specs.Filtering.{filter_program}
 use Rattle.cheetah_inputs.specs.Question.{unfiltered}
 
 -- the first limit of the profile that the query's need exceeds
@@ -21,6 +21,6 @@ abbrev pub plan_line : PlanError → List ℕ
 plan_line (Limit which need have) = concat (codes "plan refused: " ∷ limit_text which ∷ codes " need " ∷ decimal need ∷ codes " have " ∷ decimal have ∷ codes "\n" ∷ [])
 plan_line Memory = memory_line
 
--- the program of a filter's operator, for rows of so many words: pass, side, bit and the carried columns
-abbrev pub program_of : PlainBound → Program
-program_of q = filter_program (greatest_length q.carried + 3)
+-- the program of the query's operator
+abbrev pub program_planned : PlainBound → Profile → Program
+program_planned q profile = program_of (unfiltered q) profile

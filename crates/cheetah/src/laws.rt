@@ -1,11 +1,12 @@
 //! What holds of all words and files, as contracts of functions that do nothing.
-ghost use Rattle.std.specs.Prelude.{◌≡◌, ℕ, List};
-ghost use Rattle.ch_bind.specs.Binding.{plain_bound};
+ghost use Rattle.std.specs.Prelude.{◌≡◌, ◌≤◌, ℕ, true, length, List, None};
 ghost use Rattle.ch_command.specs.Command.{IsCommand};
-ghost use Rattle.ch_pred.specs.Meaning as meaning;
-ghost use Rattle.ch_pred.specs.declared.bound.Bound.{Bound};
-ghost use Rattle.ch_tables.specs.TableValue.{TableValue};
-ghost use Rattle.cheetah.specs.Answering.{answer_over, rows_asked};
+ghost use Rattle.ch_command.specs.declared.outcome.Ending.TheVariants as ending;
+ghost use Rattle.cheetah_inputs.specs.Inputs.{AreInputs, given_of};
+ghost use Rattle.cheetah_inputs.specs.declared.inputs.Inputs.{Inputs};
+ghost use Rattle.cheetah_words.specs.Words.{Request};
+ghost use Rattle.cheetah.specs.Answering.{outcome_of};
+ghost use Rattle.cheetah.specs.Planning.{limit_exceeded};
 ghost use Rattle.cheetah.specs.Result.{command_of};
 
 /// Whatever the words are and whatever the files hold, the command comes to one thing; only the text with which `clap`
@@ -14,7 +15,8 @@ pub fn words_are_commands()
     ensures { (words : List (List ℕ)) → IsCommand (command_of words) }
 {}
 
-/// The answer that the command comes to is what a bound query means over the rows of its tables.
-pub fn answers_are_meanings()
-    ensures { (b : Bound) (tables : List TableValue) → answer_over (plain_bound b) tables ≡ meaning.answer_of b (rows_asked (plain_bound b) tables) }
+/// What is read and planned, with a schedule that ends in drain, is answered.
+pub fn drained_requests_are_never_open()
+    ensures { (request : Request) (contents : List (List ℕ)) (inputs : Inputs) → AreInputs request contents inputs → length request.tables ≤ 64 → inputs.schedule.drain ≡ true
+        → limit_exceeded (given_of inputs).query inputs.profile ≡ None → (outcome_of request.plan (given_of inputs)).ending ≡ ending.Done }
 {}

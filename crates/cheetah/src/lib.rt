@@ -4,12 +4,10 @@
 mod answering;
 mod laws;
 mod planning;
-mod selection;
-mod table_row;
 mod top;
 mod verdict;
 
-pub use laws::{answers_are_meanings, words_are_commands};
+pub use laws::{drained_requests_are_never_open, words_are_commands};
 pub use top::cheetah;
 
 #[cfg(test)]

@@ -23,7 +23,7 @@ fn judge(alloc: Global, asked: &Asked<'_>, contents: Listed<Bytes>) -> Result<Ou
     ensures { IfOk result (λ outcome. OfContents (request_of asked.now) (Answers asked.now.plan) contents outcome) }
 {
     match read_inputs(alloc, asked, contents) {
-        Ok(inputs) => answer(alloc, inputs, asked.plan),
+        Ok(inputs) => answer(alloc, &inputs, asked.plan),
         Err(Refusal::Line(line)) => Ok(Outcome::refused(alloc, Ending::Input, line)),
         Err(Refusal::Memory) => Err(Memory),
     }
