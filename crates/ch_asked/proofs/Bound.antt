@@ -26,7 +26,8 @@ use Rattle.ch_bind.specs.declared.error.BindError.TheVariants as error
 use Rattle.ch_bind.specs.declared.shape.TableShape.{TableShape}
 use Rattle.ch_parts.specs.Scanned as scanned
 use Rattle.ch_parts.specs.Scanned.{side_table}
-use Rattle.ch_asked.specs.Suits.{IsBoundTo, shape_of}
+use Rattle.ch_asked.specs.Suits.{IsBoundTo}
+use Rattle.ch_bind.specs.Shapes.{shape_of}
 
 none_first : (a b : Option BindError) → option_or a b ≡ None → a ≡ None
 none_first None b e = refl

@@ -48,7 +48,7 @@ use Rattle.ch_bind.specs.Scope.{col_of, scope_of}
 use Rattle.ch_bind.specs.declared.error.BindError.{BindError}
 use Rattle.ch_bind.specs.declared.error.BindError.TheVariants as error
 use Rattle.ch_bind.specs.declared.shape.TableShape.{TableShape}
-use Rattle.ch_asked.specs.Suits.{shape_of}
+use Rattle.ch_bind.specs.Shapes.{shape_of}
 use Rattle.ch_asked.proofs.Asked.{abs_same}
 
 -- ---- the numbers of a text

@@ -9,7 +9,6 @@ use Rattle.ch_pred.specs.declared.bound.Bound.{Bound}
 use Rattle.ch_tables.specs.Table.{IsOfKind}
 use Rattle.ch_tables.specs.TableValue.{TableValue}
 use Rattle.ch_bind.specs.Sums.{sum_refusal}
-use Rattle.ch_bind.specs.declared.shape.TableShape.{TableShape}
 use Rattle.ch_parts.specs.Scanned.{side_table}
 
 -- the rows of a table: those of its parts
@@ -22,10 +21,6 @@ cell_in row at = slice_index_or row at (cell.Number (pos 0))
 -- each cell is of its column's kind
 abbrev pub IsTyped : TableValue → Type 0
 IsTyped table = Each (λ row. (at : ℕ) → at < length table.header → IsOfKind (slice_index_or table.kinds at kind.Void) (cell_in row at)) (rows_of table)
-
--- what binding knows of a table
-abbrev pub shape_of : TableValue → TableShape
-shape_of table = record { name = table.name; header = table.header; kinds = table.kinds }
 
 -- there are at most 64 tables, each of 1 to 64 parts with at most 4,000,000 rows each
 pub record AreSmall (tables : List TableValue) : Type 0 where

@@ -19,5 +19,5 @@ mod worked;
 
 pub use binding::bind;
 pub use error::{BindError, SumError};
-pub use shape::TableShape;
+pub use shape::{TableShape, shapes_of};
 pub use sums::check_sums;

@@ -2,7 +2,6 @@
 //! the tables, their carried columns and the sum that is refused; or the check that refuses the query.
 #![tactic(auto)]
 
-mod shapes;
 mod tables;
 
 ghost use Rattle.std.specs.Prelude.{IfOk};
@@ -10,10 +9,9 @@ ghost use Rattle.ch_bind.specs.Shapes.{AreShapes};
 ghost use Rattle.ch_sql.specs.Parsed.{IsParsed};
 ghost use Rattle.ch_sql_grammar.specs.Tree.{select_of};
 
-use crate::shapes::shapes_of;
 use crate::tables::read_tables;
-use ch_bind::{TableShape, bind, check_sums};
-use ch_cells::Listed;
+use ch_bind::{TableShape, bind, check_sums, shapes_of};
+use ch_cells::{Listed, Memory};
 use ch_pred::Bound;
 use ch_sql::{Query, QueryError, read_query, spelled_queries_are_parsed};
 use ch_tables::Table;
@@ -71,6 +69,9 @@ fn answer(
 fn main(rt: HostRuntime) -> anyhow::Result<()> {
     let alloc = rt.alloc();
     let tables = read_tables(alloc)?;
+    if tables.len() > 64 {
+        Err(Memory)?;
+    }
     let shapes = shapes_of(alloc, tables.as_slice())?;
     for line in rt.lines(alloc) {
         let line = line?;

@@ -1,5 +1,4 @@
-ghost use Rattle.std.specs.Prelude.{◌≡◌, ◌<◌, ◌≤◌, ◌+◌, ◌*◌, ◌^◌, ℕ, length, sum_by, slice_index, true, IfOk};
-ghost use Rattle.ch_finish.specs.Fold.{is_folded};
+ghost use Rattle.std.specs.Prelude.{◌≡◌, ◌<◌, ◌≤◌, ◌+◌, ◌*◌, ◌^◌, ℕ, length, sum_by, slice_index, IfOk};
 ghost use Rattle.ch_protocol.specs.Machine.{start, workers};
 ghost use Rattle.ch_stands.specs.Team.{sizes_of};
 ghost use Rattle.ch_survival.specs.Given.{Given};
@@ -31,7 +30,6 @@ pub fn begin<'a>(
     requires window { 1 ≤ window }
     requires many { length parts ≤ 65536 }
     requires sizes { (w : ℕ) → w < length parts → slice_index (sizes_of parts) w + 1 < 2 ^ 32 }
-    requires folded { is_folded bound.now.shape ≡ true }
     ensures stands { IfOk result (λ x. (g : Given) → g.config.parts ≡ parts.entry → two_passes ≡ g.config.two_passes → window ≡ g.config.window
         → switch ≡ fresh g.program g.begun g.slot (workers g.config) → AreFolded ranks.now bound.now g.config → Stands g x (start g.config)) }
     ensures query { IfOk result (λ x. (x.bound.now ≡ bound.now) × (x.ranks.now ≡ ranks.now)) }

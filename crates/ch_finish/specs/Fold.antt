@@ -1,5 +1,5 @@
 -- When a fold stands for a list of rows, and how much is kept of them.
-use Rattle.std.specs.Prelude.{Bool, true, ℕ, ◌+◌, List, map, min, length}
+use Rattle.std.specs.Prelude.{ℕ, ◌+◌, List, map, min, length}
 use Rattle.std.specs.Ordering.{int_cmp}
 use Rattle.std.specs.Cmp.Lexicographic.{slice_cmp}
 use Rattle.ch_lists.specs.Ordered.{once}
@@ -21,10 +21,6 @@ use Rattle.ch_fold_pairs.specs.Semi.{StandsForSemi}
 use Rattle.ch_finish.specs.declared.fold.Fold.{Fold}
 use Rattle.ch_finish.specs.declared.fold.Kept.{Kept}
 use Rattle.ch_finish.specs.declared.fold.Kept.TheVariants as kept
-
--- each kind is folded
-abbrev pub is_folded : Shape → Bool
-is_folded s = true
 
 -- each kind's relation says that the query is of this kind
 abbrev pub StandsForKept : List (List ℕ) → Bound → Kept → List Row → Type 0

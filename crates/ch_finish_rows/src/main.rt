@@ -3,7 +3,6 @@
 #![tactic(auto)]
 
 mod arrivals;
-mod shapes;
 mod tables;
 
 ghost use Rattle.std.specs.Prelude.{IfOk};
@@ -15,10 +14,9 @@ ghost use Rattle.ch_sql.specs.Parsed.{IsParsed};
 ghost use Rattle.ch_sql_grammar.specs.Tree.{select_of};
 
 use crate::arrivals::{arrivals, dictionary};
-use crate::shapes::shapes_of;
 use crate::tables::read_tables;
-use ch_bind::{TableShape, bind};
-use ch_cells::{Answer, Listed};
+use ch_bind::{TableShape, bind, shapes_of};
+use ch_cells::{Answer, Listed, Memory};
 use ch_finish::{Received, finish, folded};
 use ch_pred::Bound;
 use ch_print::answer_text;
@@ -79,6 +77,9 @@ fn answer(
 fn main(rt: HostRuntime) -> anyhow::Result<()> {
     let alloc = rt.alloc();
     let tables = read_tables(alloc)?;
+    if tables.len() > 64 {
+        Err(Memory)?;
+    }
     let shapes = shapes_of(alloc, tables.as_slice())?;
     for line in rt.lines(alloc) {
         let line = line?;

@@ -1,5 +1,4 @@
-ghost use Rattle.std.specs.Prelude.{◌≡◌, ◌≤◌, ◌+◌, true, false, length, IfOk, OnOk, OnErr};
-ghost use Rattle.ch_finish.specs.Fold.{is_folded};
+ghost use Rattle.std.specs.Prelude.{◌≡◌, ◌≤◌, ◌+◌, false, length, IfOk, OnOk, OnErr};
 ghost use Rattle.ch_ir.specs.declared.profile.Profile.{Profile};
 ghost use Rattle.ch_parts.specs.Scanned.{AreTables, parts_of};
 ghost use Rattle.ch_plan.specs.Kinds.{IsPlanOf};
@@ -63,7 +62,6 @@ impl<'a> Run<'a> {
         requires carried { greatest_length bound.now.carried ≤ 16 }
         requires window { 1 ≤ window }
         requires few { AreFew (parts_of ranks.now bound.now tables.now) }
-        requires folded { is_folded bound.now.shape ≡ true }
         ensures { let q = begun_of ranks.now bound.now tables.now plan.kind window in IfOk result (λ run. IsRunOf q run (start q.given.config)) }
     {
         let Planned {
@@ -94,7 +92,6 @@ impl<'a> Run<'a> {
         requires carried { greatest_length bound.now.carried ≤ 16 }
         requires window { 1 ≤ window }
         requires few { AreFew (parts_of ranks.now bound.now tables.now) }
-        requires folded { is_folded bound.now.shape ≡ true }
         requires switch { MayBegin ranks.now bound.now plan.now.kind (length (parts_of ranks.now bound.now tables.now)) switch }
         ensures { let q = begun_over ranks.now bound.now tables.now plan.now.kind window switch in IfOk result (λ run. IsRunOf q run (start q.given.config)) }
     {

@@ -19,7 +19,7 @@ use Rattle.ch_tables.specs.TableValue.{TableValue}
 use Rattle.cheetah_inputs.proofs.Chains.{reads_then, refused_then}
 use Rattle.cheetah_inputs.specs.Messages.{bind_line}
 use Rattle.cheetah_inputs.specs.Question.{OfBound, OfQuestion, OfSelect, ReadsQuestion, ReadsSelect, ReadsSums, bound_or_refused, never, or_refused}
-use Rattle.cheetah_inputs.specs.Tables.{shape_of}
+use Rattle.ch_bind.specs.Shapes.{shape_of}
 use Rattle.cheetah_inputs.specs.declared.refusal.Refusal.{Refusal}
 use Rattle.cheetah_inputs.specs.declared.refusal.Refusal.TheVariants as refusal
 

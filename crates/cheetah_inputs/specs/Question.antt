@@ -20,7 +20,7 @@ use Rattle.ch_sql_grammar.specs.Tree.{Select}
 use Rattle.ch_sql_limits.specs.Texts.{Spells}
 use Rattle.ch_tables.specs.TableValue.{TableValue}
 use Rattle.cheetah_inputs.specs.Messages.{bind_line, sum_line}
-use Rattle.cheetah_inputs.specs.Tables.{shape_of}
+use Rattle.ch_bind.specs.Shapes.{shape_of}
 use Rattle.cheetah_inputs.specs.declared.refusal.Refusal.{Refusal}
 use Rattle.cheetah_inputs.specs.declared.refusal.Refusal.TheVariants as refusal
 

@@ -1,6 +1,5 @@
 -- The tables that parts give, each in the room that those before it leave.
 use Rattle.std.specs.Prelude.{ℕ, ◌-◌, ◌*◌, List, [], ◌∷◌, length, flat_map, Result, Ok, Err}
-use Rattle.ch_bind.specs.declared.shape.TableShape.{TableShape}
 use Rattle.ch_cells.specs.declared.Cell.{Cell}
 use Rattle.ch_messages.specs.Table.{table_line}
 use Rattle.ch_tables.specs.Table.{table_of}
@@ -42,7 +41,3 @@ with_more (Err line) more = Err line
 abbrev pub tables_within : Room → List TableText → Result (List TableValue) (List ℕ)
 tables_within left [] = Ok []
 tables_within left (t ∷ ts) = with_more (table_or_line t.name left t.texts) (λ table. tables_within (room_after left table) ts)
-
--- what binding has to know of a table
-abbrev pub shape_of : TableValue → TableShape
-shape_of table = record { name = table.name; header = table.header; kinds = table.kinds }

@@ -9,7 +9,6 @@ mod parts;
 mod question;
 mod refusal;
 mod settings;
-mod shapes;
 mod tables;
 
 pub use inputs::{Inputs, names_in, read_inputs};

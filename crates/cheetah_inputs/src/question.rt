@@ -6,8 +6,7 @@ ghost use Rattle.ch_bind.specs.Binding.{plain_bound};
 
 use crate::messages::{bind_line, sum_line};
 use crate::refusal::Refusal;
-use crate::shapes::shapes_of;
-use ch_bind::{SumError, bind, check_sums};
+use ch_bind::{SumError, bind, check_sums, shapes_of};
 use ch_cells::{Bytes, Listed, Memory};
 use ch_messages::query_line;
 use ch_pred::Bound;

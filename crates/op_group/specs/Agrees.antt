@@ -21,7 +21,7 @@ use Rattle.op_cache.specs.Run.{AllBelow}
 use Rattle.op_group.specs.Sizes.{Sizes, IsFine}
 use Rattle.op_group.specs.Policy.{Pair, group_policy, hash_row, is_beaten, key_of, oriented, pairs_after, placed, value_of}
 use Rattle.op_group.specs.Program.{arrays_of, bad_word, gate_op, group_program, last_of, moves_of, none_op, pairs_of, row_op, value_op, verdict_op}
-use Rattle.op_group.specs.Range.{Small, saturated, turned_small, word_small}
+use Rattle.op_moves.specs.Range.{Small, saturated, turned_small, word_small}
 use Rattle.op_group.specs.Lists.{NoneTwice, pairs_formed, pairs_once, pairs_short}
 use Rattle.op_group.specs.Encoding.{changed, encoded, encoded_cleared, encoded_same, settled, settled_gated, some_beat, some_beat_is}
 use Rattle.op_group.specs.Column.{Reads}

@@ -1,7 +1,6 @@
 pub mod Sizes
 pub mod Policy
 pub mod Program
-pub mod Range
 pub mod Serving
 pub mod Lists
 pub mod Encoding

@@ -10,3 +10,4 @@ pub mod Within
 pub mod Steps
 pub mod Columns
 pub mod Built
+pub mod Range

@@ -21,7 +21,7 @@ use Rattle.op_skyline.specs.Ops.{computes_made, eq_truth}
 use Rattle.op_skyline.specs.Pointed.{points_run}
 use Rattle.op_skyline.specs.Points.{pad, pad_long, AreGood, settled_off, stays_off, settled_is, stays_is}
 use Rattle.op_skyline.specs.Policy.{dominates, inserted, point_of, score, skyline_policy, stored, stored_after}
-use Rattle.op_skyline.specs.Range.{Small, word_small}
+use Rattle.op_moves.specs.Range.{Small, word_small}
 use Rattle.op_skyline.specs.Settled.{largest, settled, stays, encoded, AreFormed}
 use Rattle.op_skyline.specs.Start.{AllSmall, IsGiven, point_long, point_small, small_score, starts}
 use Rattle.op_skyline.specs.Stored.{NeverRise, stored_ordered, stored_short}

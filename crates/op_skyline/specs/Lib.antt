@@ -3,7 +3,6 @@ pub mod Policy
 pub mod Emitted
 pub mod Worked
 pub mod Computed
-pub mod Range
 pub mod Ops
 pub mod Run
 pub mod Settled

@@ -17,7 +17,7 @@ use Rattle.op_skyline.specs.Emitted.{turned_ops, sum_ops, copy_ops, first_ops}
 use Rattle.op_skyline.specs.Fine.{IsFine, is_place}
 use Rattle.op_skyline.specs.Ops.{ops_then, two_runs, set_runs, ne_truth}
 use Rattle.op_skyline.specs.Policy.{oriented, point_at, point_of, score}
-use Rattle.op_skyline.specs.Range.{Small, saturated, turned_small}
+use Rattle.op_moves.specs.Range.{Small, saturated, turned_small}
 use Rattle.op_skyline.specs.Run.{Holds, holds_kept, Ran}
 use Rattle.op_skyline.specs.Settled.{largest}
 use Rattle.op_skyline.specs.declared.sizes.Sizes.{Sizes}

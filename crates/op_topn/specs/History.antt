@@ -11,7 +11,7 @@ use Rattle.op_moves.specs.Values.{row_words, word_at, given_at, word_given}
 use Rattle.op_topn.specs.Emitted.{arrays_of, top_program}
 use Rattle.op_topn.specs.Fine.{IsFine}
 use Rattle.op_topn.specs.Policy.{reached, threshold, top_policy, value_of, values}
-use Rattle.op_topn.specs.Range.{Small, word_small}
+use Rattle.op_moves.specs.Range.{Small, word_small}
 use Rattle.op_topn.specs.Run.{registers_from}
 use Rattle.op_topn.specs.Step.{registers_of, reaches, values_after, row_runs}
 use Rattle.op_topn.specs.Values.{AllSmall, oriented_small, small_more, counted, greatest}

@@ -2,7 +2,6 @@ pub mod Fine
 pub mod Policy
 pub mod Emitted
 pub mod Worked
-pub mod Range
 pub mod Values
 pub mod Run
 pub mod Step

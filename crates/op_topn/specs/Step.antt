@@ -16,7 +16,7 @@ use Rattle.op_moves.specs.Values.{put_all_below, put_all_at, computed, finished,
 use Rattle.op_topn.specs.Emitted.{bit_op, first_access, turned_op, pick_op, greatest_access, later_op, below_op, bad_op, steps, last_bad, verdict_op, arrays_of, moves_of, top_program}
 use Rattle.op_topn.specs.Fine.{IsFine}
 use Rattle.op_topn.specs.Policy.{distance, oriented, least, reached, threshold, step_prunes, some_step, value_prunes}
-use Rattle.op_topn.specs.Range.{Small}
+use Rattle.op_moves.specs.Range.{Small}
 use Rattle.op_topn.specs.Run.{IsStep, behind, does_reach, registers_from, any_from, lt_truth, register_moved, stepped}
 use Rattle.op_topn.specs.Values.{AllSmall, small_taken, least_small, oriented_small, turned_is, greatest, greatest_more, greatest_same, not_le, small_distance, reach_is, below_is, counted, counted_more, enough_is, none_enough, firsts, is_first, firsts_more, firsts_same, reached_more}
 use Rattle.op_topn.specs.declared.sizes.Sizes.{Sizes}

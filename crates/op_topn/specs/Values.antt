@@ -11,7 +11,7 @@ use Rattle.ch_ir.specs.declared.program.Binary.TheVariants as binary
 use Rattle.ch_ir.specs.declared.program.Test.TheVariants.{Less}
 use Rattle.ch_ir.specs.Machine.{truth, is_set, two_of, holds_at}
 use Rattle.op_topn.specs.Policy.{distance, least, oriented, reached}
-use Rattle.op_topn.specs.Range.{Small, saturated, turned_small}
+use Rattle.op_moves.specs.Range.{Small, saturated, turned_small}
 
 abbrev pub AllSmall : List ℤ → Type 0
 AllSmall [] = Unit {0}

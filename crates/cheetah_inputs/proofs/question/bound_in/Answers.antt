@@ -2,7 +2,7 @@ use Rattle.std.proofs.Common.{◌≡◌, ◌∙◌, ap, map}
 use Rattle.ch_sql_grammar.specs.Tree.{select_of}
 use Rattle.cheetah_inputs.proofs.Asking.{select_reads, select_refused}
 use Rattle.cheetah_inputs.proofs.question.bound_in.Goals as goal
-use Rattle.cheetah_inputs.specs.Tables.{shape_of}
+use Rattle.ch_bind.specs.Shapes.{shape_of}
 
 pub returns-in-Ok : goal.returns-in-Ok
 returns-in-Ok c =

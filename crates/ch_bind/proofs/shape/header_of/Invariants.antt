@@ -1,5 +1,5 @@
 use Rattle.std.proofs.Common.{◌≡◌, take}
-use Rattle.cheetah_inputs.proofs.shapes.header_of.Given as goal
+use Rattle.ch_bind.proofs.shape.header_of.Given as goal
 
 abbrev pub invariant-loop-name : goal.invariant-loop-name
 invariant-loop-name l = l.copy ≡ take l.name-index l.header
