@@ -14,12 +14,7 @@ fn rows_in(text: &[u8]) -> u64
 }
 
 /// The line that sums up an answer.
-pub fn summary(
-    alloc: Global,
-    kind: InputKind,
-    text: &[u8],
-    counts: &[u8],
-) -> Result<Bytes, Memory>
+pub fn summary(alloc: Global, kind: InputKind, text: &[u8], counts: &[u8]) -> Result<Bytes, Memory>
     ensures { IfOk result (λ line. line ≡ summary kind text.now counts.now) }
 {
     let front = summary_front(alloc, kind, rows_in(text), text.len() as u64)?;
