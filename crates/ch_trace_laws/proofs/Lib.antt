@@ -1,0 +1,6 @@
+pub mod Bytes
+pub mod Packets
+pub mod Epochs
+pub mod Steps
+pub mod Drains
+pub mod Arrivals
