@@ -10,3 +10,4 @@ pub mod Reading
 pub mod Schedules
 pub mod Sizes
 pub mod Texts
+pub mod Sharing

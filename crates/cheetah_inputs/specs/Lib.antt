@@ -4,3 +4,4 @@ pub mod Parts
 pub mod Question
 pub mod Refusals
 pub mod Tables
+pub mod Shared

@@ -1,7 +1,8 @@
-ghost use Rattle.std.specs.Prelude.{◌≡◌, ◌≤◌, All, IfOk, IfSome, length, map, option_map};
+ghost use Rattle.std.specs.Prelude.{◌≡◌, ◌≤◌, All, IfOk, IfSome, None, length, map, option_map};
 ghost use Rattle.ch_command.specs.Reading.{most_bytes};
 ghost use Rattle.cheetah_words.specs.Words.{request_of};
 ghost use Rattle.cheetah_inputs.specs.Inputs.{ReadsInputs, behind, first_text, names_of};
+ghost use Rattle.cheetah_inputs.specs.Shared.{ReadsShared};
 
 use crate::parts::name_texts;
 use crate::question::read_question;
@@ -100,4 +101,33 @@ pub fn read_inputs(
         }),
         Err(why) => Err(why),
     }
+}
+
+/// What several queries of a command share.
+#[derive(Drop)]
+pub struct Shared {
+    pub profile: Profile,
+    /// In the order of their first words.
+    pub tables: Listed<Table>,
+}
+
+/// Reads what the files of a command without a schedule hold, but for its queries: the profile, and then the tables; or says
+/// which is the first that is none.
+pub fn read_shared(
+    alloc: Global,
+    asked: &Asked<'_>,
+    contents: Listed<Bytes>,
+) -> Result<Shared, Refusal>
+    requires few { length asked.now.tables ≤ 64 }
+    requires small { All (λ bytes. length bytes ≤ most_bytes) contents }
+    requires unscheduled { (request_of asked.now).schedule ≡ None }
+    ensures reads { ReadsShared (request_of asked.now) contents result }
+    ensures few { IfOk result (λ shared. length shared.tables ≤ 64) }
+{
+    let mut texts = VecDeque::from(contents.into_vec());
+    let text = take_first(asked.profile, &mut texts);
+    let named = name_texts(alloc, asked.tables.as_slice(), texts)?;
+    let profile = profile_of(alloc, bytes_in(&text))?;
+    let tables = read_tables(alloc, named, ROOM)?;
+    Ok(Shared { profile, tables })
 }

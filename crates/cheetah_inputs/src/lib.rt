@@ -11,7 +11,7 @@ mod refusal;
 mod settings;
 mod tables;
 
-pub use inputs::{Inputs, names_in, read_inputs};
+pub use inputs::{Inputs, Shared, names_in, read_inputs, read_shared};
 pub use laws::{read_inputs_can_be_asked, read_schedules_can_be_run, read_tables_are_small};
 pub use messages::{bind_line, schedule_line, sum_line};
 pub use question::read_question;
