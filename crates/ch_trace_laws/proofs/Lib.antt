@@ -4,3 +4,4 @@ pub mod Epochs
 pub mod Steps
 pub mod Drains
 pub mod Arrivals
+pub mod Readable

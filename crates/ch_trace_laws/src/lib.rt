@@ -6,6 +6,7 @@ ghost use Rattle.std.specs.Prelude.{◌≡◌, ◌≢◌, ◌<◌, ◌≤◌, �
 ghost use Rattle.ch_lists.specs.Members.{Each};
 ghost use Rattle.ch_protocol.specs.Machine.{Config, State, start, step, stopped, workers};
 ghost use Rattle.ch_protocol.specs.declared.fate.NoteFate.TheVariants.{New};
+ghost use Rattle.ch_schedule.specs.Bad.{IsSchedule};
 ghost use Rattle.ch_schedule.specs.Event.{event_of};
 ghost use Rattle.ch_schedule.specs.declared.step.Schedule.{Schedule};
 ghost use Rattle.ch_schedule.specs.declared.step.Step.{Step};
@@ -17,6 +18,11 @@ ghost use Rattle.ch_trace_laws.specs.Sendable.{AreSendable, IsReadable, IsSendab
 /// room for a number.
 pub fn lines_are_in_range()
     ensures { (c : Config) (schedule : Schedule) → AreSendable c → 0 < workers c → 1 ≤ c.window → Each IsReadable schedule.steps → length schedule.steps < 2 ^ 32 → Each IsLine (trace_lines c (steps_done c schedule)) }
+{}
+
+/// The steps of a schedule that is read can be spelled.
+pub fn read_steps_are_readable()
+    ensures { (texts : List (List ℕ)) (schedule : Schedule) → IsSchedule texts schedule → Each IsReadable schedule.steps }
 {}
 
 /// A step whose fate is that a packet is new to the master tells its bytes, and by any other the master receives nothing.
