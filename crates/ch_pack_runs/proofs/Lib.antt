@@ -1,0 +1,5 @@
+pub mod Epochs
+pub mod Splits
+pub mod Sent
+pub mod Left
+pub mod Begins
