@@ -1,0 +1,5 @@
+pub mod Runs
+pub mod Begun
+pub mod Limits
+pub mod Traces
+pub mod Considered
