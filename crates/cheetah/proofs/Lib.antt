@@ -1,3 +1,4 @@
+pub mod Completed
 pub mod Considered
 pub mod Meanings
 pub mod Planned

@@ -1,3 +1,4 @@
 pub mod Answering
+pub mod Complete
 pub mod Planning
 pub mod Result

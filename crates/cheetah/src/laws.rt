@@ -2,10 +2,13 @@
 ghost use Rattle.std.specs.Prelude.{◌≡◌, ◌≤◌, ℕ, true, length, List, None};
 ghost use Rattle.ch_command.specs.Command.{IsCommand};
 ghost use Rattle.ch_command.specs.declared.outcome.Ending.TheVariants as ending;
+ghost use Rattle.ch_command.specs.declared.outcome.Outcome.{Outcome};
+ghost use Rattle.ch_outside.specs.Shelf.{Files};
 ghost use Rattle.cheetah_inputs.specs.Inputs.{AreInputs, given_of};
 ghost use Rattle.cheetah_inputs.specs.declared.inputs.Inputs.{Inputs};
 ghost use Rattle.cheetah_words.specs.Words.{Request};
 ghost use Rattle.cheetah.specs.Answering.{outcome_of};
+ghost use Rattle.cheetah.specs.Complete.{IsAnswerable};
 ghost use Rattle.cheetah.specs.Planning.{limit_exceeded};
 ghost use Rattle.cheetah.specs.Result.{command_of};
 
@@ -19,4 +22,10 @@ pub fn words_are_commands()
 pub fn drained_requests_are_never_open()
     ensures { (request : Request) (contents : List (List ℕ)) (inputs : Inputs) → AreInputs request contents inputs → length request.tables ≤ 64 → inputs.schedule.drain ≡ true
         → limit_exceeded (given_of inputs).query inputs.profile ≡ None → (outcome_of request.plan (given_of inputs)).ending ≡ ending.Done }
+{}
+
+/// Words that are taken come to an answer and nothing else, where every file and text that they name is accepted, every need
+/// is within the profile, and the schedule confirms or ends in drain.
+pub fn accepted_requests_are_answered()
+    ensures { (words : List (List ℕ)) (files : Files) (outcome : Outcome) → IsAnswerable words files → (command_of words).comes_to files outcome → outcome.ending ≡ ending.Done }
 {}

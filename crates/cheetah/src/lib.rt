@@ -7,7 +7,9 @@ mod planning;
 mod top;
 mod verdict;
 
-pub use laws::{drained_requests_are_never_open, words_are_commands};
+pub use laws::{
+    accepted_requests_are_answered, drained_requests_are_never_open, words_are_commands,
+};
 pub use top::cheetah;
 
 #[cfg(test)]

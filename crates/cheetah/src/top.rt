@@ -1,6 +1,7 @@
 ghost use Rattle.std.specs.Prelude.{◌≡◌, ◌≤◌, map, string_bytes};
 ghost use Rattle.ch_outside.specs.Faults.{StaysReliable};
 ghost use Rattle.ch_command.specs.Call.{Promise, change_of, faults_of};
+ghost use Rattle.cheetah.specs.Complete.{IsComplete};
 ghost use Rattle.cheetah.specs.Result.{command_of};
 
 use crate::verdict::consider;
@@ -18,6 +19,13 @@ pub fn cheetah<F: Shelf, O: Sink, E: Sink>(
     err: &mut E,
 ) -> u8
     ensures promise { Promise (command_of (map string_bytes words.now)) (record {
+      told = F.told shelf.old;
+      shelf = faults_of F.faults shelf.old shelf.new;
+      out = change_of O.written O.faults out.old out.new;
+      err = change_of E.written E.faults err.old err.new;
+      status = result;
+    }) }
+    ensures complete { IsComplete (map string_bytes words.now) (record {
       told = F.told shelf.old;
       shelf = faults_of F.faults shelf.old shelf.new;
       out = change_of O.written O.faults out.old out.new;
