@@ -8,8 +8,7 @@ use cheetah_audit::cheetah_audit;
 use std::io;
 use std::process::ExitCode;
 
-const USAGE: &[u8] =
-    b"usage: cheetah_audit write or check, QUERY, FILE, PROFILE, NAME=FILE\n";
+const USAGE: &[u8] = b"usage: cheetah_audit write or check, QUERY, FILE, PROFILE, NAME=FILE\n";
 
 fn words_of(rt: &HostRuntime) -> io::Result<Listed<String>> {
     let words: Vec<String> = std::env::args(rt)?.collect(rt.alloc())?;

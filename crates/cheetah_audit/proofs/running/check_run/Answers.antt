@@ -20,7 +20,6 @@ check-requires-clause-valid c =
     let config = config_of (given_of c.args.inputs.now) in
     at_valid c.in_ok-run.run'.run c.in_ok-run.run'.last config (start config) c.in_ok-run.ensures
 
-
 pub check-requires-clause-epochs : goal.check-requires-clause-epochs
 check-requires-clause-epochs c =
     let begins = c.in_ok-run.ensures.run.stands.switch.epoch_is in

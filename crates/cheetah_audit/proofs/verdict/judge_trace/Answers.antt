@@ -35,4 +35,4 @@ returns-in-Err-Line c =
     let request : Request = request_of c.args.asked.now in
     let refusal = rw c.in-Err-Line.field-0-is at c.in-Err-Line.ensures in
     rw c.refused.ensures (subst (λ (others : List (List ℕ)). OfContents (without_schedule request) (Checks runs (trace_text request c.args.contents)) others (refused Input c.in-Err-Line.line)) c.take_trace-trace.ensures.others
-      (contents_refused (without_schedule request) c.take_trace-trace.result.1 (Checks runs (trace_text request c.args.contents)) (refused Input c.in-Err-Line.line) refusal))
+    (contents_refused (without_schedule request) c.take_trace-trace.result.1 (Checks runs (trace_text request c.args.contents)) (refused Input c.in-Err-Line.line) refusal))
