@@ -48,8 +48,18 @@ op 13 lt w12 #3
 verdict 13
 ";
 
+/// The row 'Guarded addition': at each step 5 is added to the first of two entries.
+const GUARDED_ADDITION: &str = "\
+width 3
+array 2 1
+stage
+access 0 #0 #1 always - addsat:#5 keep 3 4
+verdict 4
+";
+
 /// A program, rows, which of them are pruned (`p`) and which kept (`k`), and all cells after them.
 const RUNS: &[(&str, &str, &str, &str)] = &[
+    // The row 'Checker'.
     (
         "width 3\nstage\nop 3 lt w2 #5\nverdict 3\n",
         "1,0,3 1,0,5 1,0 -",
@@ -74,6 +84,7 @@ const RUNS: &[(&str, &str, &str, &str)] = &[
         "ppkpppk",
         "1,4,-3,1,10,0,12,0,19",
     ),
+    (GUARDED_ADDITION, "1,0,1 1,0,1", "pp", "10,0"),
 ];
 
 fn verdicts(rt: &(impl Abort + AllocGlobal), pipe: &mut Pipe, rows: &str) -> Result<String, Fail> {

@@ -13,7 +13,9 @@
 use ch_cells::{Bytes, Listed};
 use ch_outside::{MapShelf, VecSink};
 use cheetah::cheetah;
+use cheetah_audit::cheetah_audit;
 use cheetah_check::cheetah_check;
+use cheetah_pack::cheetah_pack;
 use std::alloc::Global;
 use std::str;
 
@@ -87,10 +89,11 @@ fn run(alloc: Global, row: &Row, text: &str) -> anyhow::Result<Ran> {
     let mut shelf = shelf_of(alloc, row)?;
     let mut out = VecSink::new(alloc, Vec::from_slice(alloc, row.out.as_slice())?);
     let mut err = VecSink::new(alloc, Vec::from_slice(alloc, row.err.as_slice())?);
-    let status = if text.starts_with("cheetah_check|") {
-        cheetah_check(alloc, &words, &mut shelf, &mut out, &mut err)
-    } else {
-        cheetah(alloc, &words, &mut shelf, &mut out, &mut err)
+    let status = match text.split_once('|').map(|cut| cut.0) {
+        Some("cheetah_audit") => cheetah_audit(alloc, &words, &mut shelf, &mut out, &mut err),
+        Some("cheetah_check") => cheetah_check(alloc, &words, &mut shelf, &mut out, &mut err),
+        Some("cheetah_pack") => cheetah_pack(alloc, &words, &mut shelf, &mut out, &mut err),
+        _ => cheetah(alloc, &words, &mut shelf, &mut out, &mut err),
     };
     Ok(Ran {
         status,

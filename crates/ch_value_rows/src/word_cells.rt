@@ -1,0 +1,104 @@
+ghost use Rattle.std.specs.Prelude.{◌≡◌, ◌∷◌, [], length, pos, true, ◌≤ℤ◌, ◌<ℤ◌, IfOk};
+
+use ch_cells::{Bytes, Kind, Listed, Memory};
+use ch_pred::{Arg, Bound, BoundPred, Cmp, Col, Printed, Shape};
+use ch_ranks::{Ranks, RanksBuilder};
+use ch_word_cells::{holds_on_pair, holds_on_row};
+use std::alloc::Global;
+use std::test::Fail;
+
+const TEXT: Col = Col { side: 0, at: 1 };
+
+fn one<T: Drop>(alloc: Global, item: T) -> Result<Listed<T>, Memory>
+    ensures { IfOk result (λ list. list ≡ item ∷ []) }
+{
+    let mut list = Listed::new(alloc);
+    list.push(item)?;
+    Ok(list)
+}
+
+/// Whether the row with this word passes `b LIKE 'x%'`, if the word is a rank.
+fn passes(alloc: Global, ranks: &Ranks, word: i64) -> Result<bool, Fail> {
+    let carried = one(alloc, one(alloc, 1)?)?;
+    let kinds = one(alloc, one(alloc, Kind::Text)?)?;
+    let header = one(alloc, Bytes::from_slice(alloc, b"b")?)?;
+    let printed = one(alloc, Printed::Column(TEXT))?;
+    let prefix = Bytes::from_slice(alloc, b"x")?;
+    let query = Bound {
+        tables: one(alloc, 0)?,
+        carried,
+        kinds,
+        header,
+        printed,
+        filter: BoundPred::Like(TEXT, prefix),
+        shape: Shape::Filter,
+    };
+    if word < 0 || word >= i64::from(ranks.size()) {
+        return Ok(false);
+    }
+    Ok(holds_on_row(&query, ranks, &[word]))
+}
+
+#[test]
+fn ranks_are_read(rt: HostRuntime) -> Result<(), Fail> {
+    let alloc = rt.alloc();
+    let mut builder = RanksBuilder::new(alloc);
+    builder.add(b"xa")?;
+    builder.add(b"b")?;
+    let ranks = builder.finish()?;
+    assert!(rt; !passes(alloc, &ranks, 0)?);
+    assert!(rt; passes(alloc, &ranks, 1)?);
+    Ok(())
+}
+
+const OTHER: Col = Col { side: 1, at: 0 };
+
+fn two<T: Drop>(alloc: Global, first: T, second: T) -> Result<Listed<T>, Memory>
+    ensures { IfOk result (λ list. list ≡ first ∷ second ∷ []) }
+{
+    let mut list = Listed::new(alloc);
+    list.push(first)?;
+    list.push(second)?;
+    Ok(list)
+}
+
+fn is_rank(ranks: &Ranks, word: i64) -> bool
+    ensures { result ≡ true → (pos 0 ≤ℤ word) × (word <ℤ pos (length ranks.now)) }
+{
+    0 <= word && word < i64::from(ranks.size())
+}
+
+/// Whether a pair of rows with these words passes `b < c`, if both are ranks.
+fn pair_passes(alloc: Global, ranks: &Ranks, left: i64, right: i64) -> Result<bool, Fail> {
+    let carried = two(alloc, one(alloc, 1)?, one(alloc, 0)?)?;
+    let kinds = two(alloc, one(alloc, Kind::Text)?, one(alloc, Kind::Text)?)?;
+    let header = one(alloc, Bytes::from_slice(alloc, b"b")?)?;
+    let query = Bound {
+        tables: two(alloc, 0, 1)?,
+        carried,
+        kinds,
+        header,
+        printed: one(alloc, Printed::Column(TEXT))?,
+        filter: BoundPred::Compare(TEXT, Cmp::Lt, Arg::Column(OTHER)),
+        shape: Shape::Join {
+            left: TEXT,
+            right: OTHER,
+        },
+    };
+    if is_rank(ranks, left) && is_rank(ranks, right) {
+        return Ok(holds_on_pair(&query, ranks, &[left], &[right]));
+    }
+    Ok(false)
+}
+
+#[test]
+fn pairs_have_both_rows(rt: HostRuntime) -> Result<(), Fail> {
+    let alloc = rt.alloc();
+    let mut builder = RanksBuilder::new(alloc);
+    builder.add(b"a")?;
+    builder.add(b"b")?;
+    let ranks = builder.finish()?;
+    assert!(rt; pair_passes(alloc, &ranks, 0, 1)?);
+    assert!(rt; !pair_passes(alloc, &ranks, 1, 0)?);
+    Ok(())
+}

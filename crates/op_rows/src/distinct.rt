@@ -1,0 +1,31 @@
+use ch_cells::Listed;
+use ch_prune::{Front, Need, OnePass};
+use op_distinct::Distinct;
+use std::alloc::Global;
+use std::test::Fail;
+
+/// What an operator of one pass needs, the number of its passes, and the stages and arrays of its program.
+fn shown<O: OnePass>(alloc: Global, operator: &O) -> Result<(Need, u8, usize, usize), Fail> {
+    let program = operator.emit(alloc)?;
+    Ok((
+        operator.need(),
+        operator.passes(),
+        program.stages.len(),
+        program.arrays.len(),
+    ))
+}
+
+#[test]
+fn distinct_is_shown(rt: HostRuntime) -> Result<(), Fail> {
+    let key = Listed::from_vec(vec![in rt.alloc(); 3, 4]?);
+    let distinct = Distinct::new(Front::bit(), 64, 5, 4096, 4, key);
+    let (need, passes, stages, arrays) = shown(rt.alloc(), &distinct)?;
+    assert_eq!(rt; need.width, 5);
+    assert_eq!(rt; need.cells, 12288);
+    assert_eq!(rt; need.words, 173);
+    assert_eq!(rt; need.stages, 6);
+    assert_eq!(rt; passes, 1);
+    assert_eq!(rt; stages, 5);
+    assert_eq!(rt; arrays, 4);
+    Ok(())
+}
