@@ -13,7 +13,7 @@ use Rattle.ch_pack_laws.specs.Needs.{packed_need}
 use Rattle.ch_plan.specs.Needs.{need_of}
 use Rattle.ch_plan.specs.declared.error.PlanError.{PlanError}
 use Rattle.ch_prune.specs.declared.operator.Need.{Need}
-use Rattle.cheetah.specs.Planning.{limit_exceeded, plan_line}
+use Rattle.cheetah_inputs.specs.Limits.{limit_exceeded, plan_line}
 use Rattle.cheetah_inputs.specs.Question.{unfiltered}
 use Rattle.cheetah_pack_meaning.specs.Queries.{numbered}
 

@@ -27,9 +27,9 @@ use Rattle.ch_tables.specs.TableValue.{TableValue}
 use Rattle.ch_verify.specs.Checked.{IsChecked}
 use Rattle.cheetah_pack_meaning.specs.Meaning.{said_alone}
 use Rattle.cheetah_pack_run.specs.Running.{AreAskedPlans, HasStopped, IsAskedPlan, IsInstalled, inputs_alone}
-use Rattle.cheetah_run.proofs.Asked.{are_tables, few_carried, few_parts, known, ranged, some_parts}
-use Rattle.cheetah_run.proofs.Ends.{run_comes}
-use Rattle.cheetah_run.specs.Saying.{said_in}
+use Rattle.cheetah_pack_meaning.proofs.Asked.{are_tables, few_carried, few_parts, known, ranged, some_parts}
+use Rattle.cheetah_pack_meaning.proofs.Ends.{run_comes}
+use Rattle.cheetah_pack_meaning.specs.Saying.{said_in}
 
 -- each query with its plan
 pub asked_at : (profile : Profile) (tables : List TableValue) (bounds : List Bound) (plans : List Planned) → AreAskedPlans profile tables bounds plans → (k : ℕ) (b : Bound) (p : Planned)

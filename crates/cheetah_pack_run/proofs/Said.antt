@@ -12,7 +12,7 @@ use Rattle.ch_protocol.specs.Outcome as run
 use Rattle.ch_run.specs.Outcomes.{counts_seen, outcome_seen}
 use Rattle.ch_run.specs.Runs.{Begun}
 use Rattle.ch_run.specs.declared.outcome.Outcome.TheVariants as seen
-use Rattle.cheetah_run.specs.Saying.{arrived_in, said_of_run}
+use Rattle.cheetah_pack_meaning.specs.Saying.{arrived_in, said_of_run}
 
 pub done_said : (q : Begun) (s : State) (o : run.Outcome) (a : Answer) (counts : Counts) → seen.Done counts ≡ outcome_seen o → a.header ≡ q.query.header → a.rows ≡ arrived_in q s
     → ◌≡◌ {A = Outcome} (record { ending = ending.Done; out = text_of a; err = counts_line counts }) (said_of_run q s o)

@@ -14,7 +14,7 @@ use Rattle.ch_run.specs.Runs.{Begun, IsRunOf}
 use Rattle.ch_tables.specs.TableValue.{TableValue}
 use Rattle.cheetah_inputs.specs.Inputs.{drain_alone}
 use Rattle.cheetah_inputs.specs.declared.inputs.Inputs.{Inputs}
-use Rattle.cheetah_run.specs.Asking.{AreAsked}
+use Rattle.cheetah_pack_meaning.specs.Asking.{AreAsked}
 
 -- what the command that asks this query alone reads
 abbrev pub inputs_alone : Profile → List TableValue → Bound → Inputs

@@ -5,7 +5,7 @@ ghost use Rattle.ch_parts.specs.Scanned.{AreTables, parts_of};
 ghost use Rattle.ch_plan.specs.declared.planned.Planned.{Planned as Plan};
 ghost use Rattle.ch_protocol.specs.Machine.{State};
 ghost use Rattle.ch_run.specs.Runs.{Begun, IsRunOf};
-ghost use Rattle.cheetah_run.specs.Saying.{said_in};
+ghost use Rattle.cheetah_pack_meaning.specs.Saying.{said_in};
 ghost use Rattle.cheetah_pack_meaning.specs.Meaning.{said_alone, together};
 ghost use Rattle.cheetah_pack_run.specs.Running.{AreAskedPlans, HasStopped, IsAskedPlan, IsInstalled};
 

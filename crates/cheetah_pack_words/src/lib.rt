@@ -4,6 +4,3 @@
 mod words;
 
 pub use words::asked_in;
-
-#[cfg(test)]
-mod tests;

@@ -1,0 +1,3 @@
+pub mod Considered
+pub mod Planning
+pub mod Reading
