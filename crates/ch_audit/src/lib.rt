@@ -6,6 +6,3 @@ mod said;
 
 pub use compare::agrees;
 pub use said::refused_line;
-
-#[cfg(test)]
-mod tests;

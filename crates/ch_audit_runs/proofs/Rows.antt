@@ -15,7 +15,8 @@ use Rattle.ch_protocol.specs.Packets.{Name, Packet}
 use Rattle.ch_protocol.specs.Received.{names_arrived}
 use Rattle.ch_schedule.specs.Event.{event_of}
 use Rattle.ch_schedule.specs.declared.step.Step.{Step}
-use Rattle.ch_trace_lines.specs.Trace.{noted_at, row_packet}
+use Rattle.ch_ends.specs.Packets.{packet_for}
+use Rattle.ch_trace_lines.specs.Trace.{noted_at}
 use Rattle.ch_trace_lines.specs.declared.line.Noted.{Noted}
 use Rattle.ch_trace_laws.specs.Sendable.{IsSendable}
 use Rattle.ch_trace_laws.proofs.Arrivals.{came, others}
@@ -30,7 +31,7 @@ map_both (x ∷ a) b = ap (λ ns. name_of x ∷ ns) (map_both a b)
 named_more : (c : Config) (x : Name) (received : List Name) → rows_named c (x ∷ received) ≡ rows_named c received ++ (if nat_lt x.number (size c x.worker) then x ∷ [] else [])
 named_more c x received = ap (filter (λ y. nat_lt y.number (size c y.worker))) (reverse_onto received x []) ∙ filter-append (λ y. nat_lt y.number (size c y.worker)) (reverse received) (x ∷ [])
 
-row_name : (c : Config) (m : Packet) → m.name.number ≤ size c m.name.worker → map name_of (listed (row_in (row_packet c m))) ≡ (if nat_lt m.name.number (size c m.name.worker) then m.name ∷ [] else [])
+row_name : (c : Config) (m : Packet) → m.name.number ≤ size c m.name.worker → map name_of (listed (row_in (packet_for c m))) ≡ (if nat_lt m.name.number (size c m.name.worker) then m.name ∷ [] else [])
 row_name c m le = elim (cases_eq m.name.number (size c m.name.worker)) [
   | inl e ↦
       let fin : is_fin c m.name ≡ true = eq-eqb m.name.number (size c m.name.worker) e in
@@ -43,11 +44,11 @@ row_name c m le = elim (cases_eq m.name.number (size c m.name.worker)) [
 ]
 
 -- a packet that is new to the master
-pub kept_more : (c : Config) (s t : State) (m : Packet) (old new : List Arrival) → AreKept c s old → new ≡ old ++ listed (row_in (row_packet c m)) → m.name.number ≤ size c m.name.worker → t.received ≡ m.name ∷ s.received → AreKept c t new
+pub kept_more : (c : Config) (s t : State) (m : Packet) (old new : List Arrival) → AreKept c s old → new ≡ old ++ listed (row_in (packet_for c m)) → m.name.number ≤ size c m.name.worker → t.received ≡ m.name ∷ s.received → AreKept c t new
 kept_more c s t m old new kept e le more =
     ap (map name_of) e
-    ∙ (map_both old (listed (row_in (row_packet c m)))
-    ∙ (ap (λ ns. ns ++ map name_of (listed (row_in (row_packet c m)))) kept
+    ∙ (map_both old (listed (row_in (packet_for c m)))
+    ∙ (ap (λ ns. ns ++ map name_of (listed (row_in (packet_for c m)))) kept
     ∙ (ap (λ ns. rows_named c s.received ++ ns) (row_name c m le) ∙ (sym (named_more c m.name s.received) ∙ ap (rows_named c) (sym more)))))
 
 pub kept_same : (c : Config) (s t : State) (old new : List Arrival) → AreKept c s old → new ≡ old → t.received ≡ s.received → AreKept c t new
@@ -96,6 +97,6 @@ kept_after c s x found old new is runs noted kept arrived stays =
       | inl e ↦
           let r = came c s is x runs (sym fate ∙ e) in
           let bytes = ap (λ (n : Noted). n.bytes) noted ∙ r.bytes_are in
-          kept_more c s (step c s (event_of x)) r.packet old new kept (arrived (row_packet c r.packet) r.spelled bytes e) r.number r.received
+          kept_more c s (step c s (event_of x)) r.packet old new kept (arrived (packet_for c r.packet) r.spelled bytes e) r.number r.received
       | inr ne ↦ kept_same c s (step c s (event_of x)) old new kept (stays ne) (others c s x runs (λ e. ne (fate ∙ e)))
     ]

@@ -11,6 +11,3 @@ mod writing;
 pub use checking::{Checked, check};
 pub use noting::Noting;
 pub use writing::write;
-
-#[cfg(test)]
-mod tests;

@@ -15,7 +15,8 @@ use Rattle.ch_protocol.specs.declared.fate.NoteFate.TheVariants.{Nothing, New, O
 use Rattle.ch_schedule.specs.Event.{event_of, how_of}
 use Rattle.ch_schedule.specs.declared.step.Step.{Step}
 use Rattle.ch_schedule.specs.declared.step.Step.TheVariants as step
-use Rattle.ch_trace_lines.specs.Trace.{noted_at, row_bytes}
+use Rattle.ch_ends.specs.Packets.{packet_bytes}
+use Rattle.ch_trace_lines.specs.Trace.{noted_at}
 use Rattle.ch_trace_laws.specs.Sendable.{IsSendable, Receives}
 use Rattle.ch_trace_laws.proofs.Packets.{known_name, row_sent, sound_of}
 
@@ -128,7 +129,7 @@ resend_not true (Some k) e = cc
 resend_not false o e = cc
 
 module _ (c : Config) (s : State) (is : IsSendable c s) where
-  came_down : (i : ℕ) (how : How) (o : Option Packet) → slice_get s.down i ≡ o → down_fate s how o ≡ New → Receives c s (receive_at s i how o) (option_map (row_bytes c) o)
+  came_down : (i : ℕ) (how : How) (o : Option Packet) → slice_get s.down i ≡ o → down_fate s how o ≡ New → Receives c s (receive_at s i how o) (option_map (packet_bytes c) o)
   came_down i how None at e = absurd cc
   came_down i how (Some m) at e =
       let sound = sound_of c s is in

@@ -1,6 +1,6 @@
 -- The packets of a run are packets.
 use Rattle.std.proofs.Common.{◌≡◌, ◌⊎◌, ◌<◌, ◌≤◌, ◌^◌, ℕ, zero, suc, arith, refl, inl, inr, Bool, true, false}
-use Rattle.std.specs.Prelude.{if◌then◌else◌, slice_index_or, FitsSigned}
+use Rattle.std.specs.Prelude.{if◌then◌else◌, FitsSigned}
 use Rattle.std.specs.Int.{w64}
 use Rattle.std.proofs.lemmas.Bool.{cases_eq, eq-eqb, ne_eqb}
 use Rattle.std.proofs.lemmas.List.{get_or_past}
@@ -14,7 +14,7 @@ use Rattle.ch_protocol.specs.Machine.{Config, State, is_fin, no_row, passes, row
 use Rattle.ch_protocol.specs.Packets.{Ack, Name, Origin, Packet}
 use Rattle.ch_protocol.specs.Packets.Origin.{Switch, Master}
 use Rattle.ch_protocol_laws.proofs.Reached.{reached_sound}
-use Rattle.ch_trace_lines.specs.Trace.{ack_packet, no_part, origin_code, row_packet}
+use Rattle.ch_ends.specs.Packets.{ack_for, origin_code, packet_for, side_of}
 use Rattle.ch_trace_laws.specs.Sendable.{AreSendable, IsSendable}
 
 passes_few : (c : Config) → passes c ≤ 2
@@ -54,7 +54,7 @@ one_or_two (suc zero) a b = inl refl
 one_or_two (suc (suc zero)) a b = inr refl
 one_or_two (suc (suc (suc p))) a b = absurd (omega (arith, b))
 
-pub row_sent : (c : Config) (m : Packet) → AreSendable c → IsName c m.name → m.epoch < 2 ^ 32 → IsPacket (row_packet c m)
+pub row_sent : (c : Config) (m : Packet) → AreSendable c → IsName c m.name → m.epoch < 2 ^ 32 → IsPacket (packet_for c m)
 row_sent c m are is small =
     let sizes = are.sizes m.name.worker is.worker in
     let pass = one_or_two m.name.pass is.first is.last in
@@ -66,7 +66,7 @@ row_sent c m are is small =
       | inl e ↦
           let fin : is_fin c m.name ≡ true = eq-eqb m.name.number (size c m.name.worker) e in
           let none : row_at c m.name ≡ no_row = get_or_past (rows_of c m.name.worker) m.name.number no_row (omega (arith, e)) in
-          let is_it : IsPacket (made true no_row (slice_index_or c.parts m.name.worker no_part).side m) = record {
+          let is_it : IsPacket (made true no_row (side_of c m.name.worker) m) = record {
             writable = record { pass = pass; side = side; words = omega arith; bit = omega arith };
             worker = omega (arith, many, worker);
             number = omega (arith, sizes, number);
@@ -77,7 +77,7 @@ row_sent c m are is small =
       | inr ne ↦
           let fin : is_fin c m.name ≡ false = ne_eqb m.name.number (size c m.name.worker) ne in
           let less : m.name.number < size c m.name.worker = omega (arith, number, ne) in
-          let is_it : IsPacket (made false (row_at c m.name) (slice_index_or c.parts m.name.worker no_part).side m) = record {
+          let is_it : IsPacket (made false (row_at c m.name) (side_of c m.name.worker) m) = record {
             writable = record { pass = pass; side = side; words = are.few m.name worker less; bit = bit_few (row_at c m.name).bit };
             worker = omega (arith, many, worker);
             number = omega (arith, sizes, number);
@@ -91,7 +91,7 @@ origin_few : (o : Origin) → origin_code o ≤ 1
 origin_few Switch = omega arith
 origin_few Master = omega arith
 
-pub ack_sent : (c : Config) (a : Ack) → AreSendable c → IsName c a.name → a.epoch < 2 ^ 32 → IsPacket (ack_packet a)
+pub ack_sent : (c : Config) (a : Ack) → AreSendable c → IsName c a.name → a.epoch < 2 ^ 32 → IsPacket (ack_for a)
 ack_sent c a are is small =
     let sizes = are.sizes a.name.worker is.worker in
     let many = are.many in

@@ -26,7 +26,8 @@ use Rattle.ch_schedule.specs.declared.step.Step.{Step}
 use Rattle.ch_schedule.specs.declared.step.Step.TheVariants as step
 use Rattle.ch_trace_lines.specs.Fates.{fates_for}
 use Rattle.ch_trace_lines.specs.Range.{IsLine, IsPacket, sent_of}
-use Rattle.ch_trace_lines.specs.Trace.{ack_bytes, ack_packet, bytes_of, noted_at, row_bytes, row_packet, sent_packet}
+use Rattle.ch_ends.specs.Packets.{ack_bytes, ack_for, packet_bytes, packet_for}
+use Rattle.ch_trace_lines.specs.Trace.{bytes_of, noted_at, sent_packet}
 use Rattle.ch_trace_lines.specs.declared.line.Line.TheVariants.{Event}
 use Rattle.ch_trace_laws.specs.Sendable.{IsReadable, IsSendable}
 use Rattle.ch_trace_laws.proofs.Bytes.{spelled_bytes, spelled_sound}
@@ -67,23 +68,23 @@ either_of true b e = inl refl
 either_of false b e = inr e
 
 module _ (c : Config) (s : State) (is : IsSendable c s) where
-  up_line : (h : SaidHow) (o : Option Packet) → ((m : Packet) → o ≡ Some m → In m s.up) → IsPacket (option_map (row_bytes c) o) × In (up_fate c s (how_of h) o) (fates_for link.Up h (is_some (option_map (row_bytes c) o)))
+  up_line : (h : SaidHow) (o : Option Packet) → ((m : Packet) → o ≡ Some m → In m s.up) → IsPacket (option_map (packet_bytes c) o) × In (up_fate c s (how_of h) o) (fates_for link.Up h (is_some (option_map (packet_bytes c) o)))
   up_line h None there = (tt, inl refl)
   up_line h (Some m) there =
       let sound = sound_of c s is in
       let on = sound.up m (there m refl) in
       let small = is.small in
       let past = on.past in
-      (some_packet (row_packet c m) (row_sent c m is.config (known_name c s m.name sound on.known) (omega (arith, small, past))), switch_said (fate_at c s m.name) h)
+      (some_packet (packet_for c m) (row_sent c m is.config (known_name c s m.name sound on.known) (omega (arith, small, past))), switch_said (fate_at c s m.name) h)
 
-  down_line : (h : SaidHow) (o : Option Packet) → ((m : Packet) → o ≡ Some m → In m s.down) → IsPacket (option_map (row_bytes c) o) × In (down_fate s (how_of h) o) (fates_for link.Down h (is_some (option_map (row_bytes c) o)))
+  down_line : (h : SaidHow) (o : Option Packet) → ((m : Packet) → o ≡ Some m → In m s.down) → IsPacket (option_map (packet_bytes c) o) × In (down_fate s (how_of h) o) (fates_for link.Down h (is_some (option_map (packet_bytes c) o)))
   down_line h None there = (tt, inl refl)
   down_line h (Some m) there =
       let sound = sound_of c s is in
       let on = sound.down m (there m refl) in
       let small = is.small in
       let past = on.past in
-      (some_packet (row_packet c m) (row_sent c m is.config (known_name c s m.name sound on.known) (omega (arith, small, past))), master_said (has s.received m.name) h)
+      (some_packet (packet_for c m) (row_sent c m is.config (known_name c s m.name sound on.known) (omega (arith, small, past))), master_said (has s.received m.name) h)
 
   back_line : (h : SaidHow) (o : Option Ack) → ((a : Ack) → o ≡ Some a → In a s.back) → IsPacket (option_map ack_bytes o) × In (back_fate s (how_of h) o) (fates_for link.Back h (is_some (option_map ack_bytes o)))
   back_line h None there = (tt, inl refl)
@@ -92,11 +93,11 @@ module _ (c : Config) (s : State) (is : IsSendable c s) where
       let on = sound.back a (there a refl) in
       let small = is.small in
       let past = on.past in
-      (some_packet (ack_packet a) (ack_sent c a is.config (known_name c s a.name sound on.known) (omega (arith, small, past))), worker_said (is_current s.pass s.epoch a.name.pass a.epoch) h)
+      (some_packet (ack_for a) (ack_sent c a is.config (known_name c s a.name sound on.known) (omega (arith, small, past))), worker_said (is_current s.pass s.epoch a.name.pass a.epoch) h)
 
   -- a number that a worker has goes on the link up as a packet
-  number_sent : (w k : ℕ) → w < workers c → k ≤ size c w → IsPacket (Some (row_bytes c (sent_packet s w k)))
-  number_sent w k lt le = let m = sent_packet s w k in some_packet (row_packet c m) (row_sent c m is.config (now_name c s w k (sound_of c s is) lt le) is.small)
+  number_sent : (w k : ℕ) → w < workers c → k ≤ size c w → IsPacket (Some (packet_bytes c (sent_packet s w k)))
+  number_sent w k lt le = let m = sent_packet s w k in some_packet (packet_for c m) (row_sent c m is.config (now_name c s w k (sound_of c s is) lt le) is.small)
 
   may_number : (w : ℕ) → can_send c s w ≡ true → s.next w ≤ size c w
   may_number w can = elim (either_of (has_room (size c w) c.window (s.next w) (s.acked w)) (may_end (size c w) (s.next w) (s.acked w)) can) [
@@ -108,7 +109,7 @@ module _ (c : Config) (s : State) (is : IsSendable c s) where
   send_line w = go (nat_lt w (workers c) && can_send c s w) refl
     where
       go : (b : Bool) → (nat_lt w (workers c) && can_send c s w) ≡ b
-          → let bytes : Option (List ℕ) = if b then Some (row_bytes c (sent_packet s w (s.next w))) else None in IsPacket bytes × (send_fate b ≡ sent_of bytes)
+          → let bytes : Option (List ℕ) = if b then Some (packet_bytes c (sent_packet s w (s.next w))) else None in IsPacket bytes × (send_fate b ≡ sent_of bytes)
       go true e = let both = and_parts (nat_lt w (workers c)) (can_send c s w) e in (number_sent w (s.next w) (ltb-true w (workers c) both.0) (may_number w both.1), refl)
       go false e = (tt, refl)
 
@@ -116,7 +117,7 @@ module _ (c : Config) (s : State) (is : IsSendable c s) where
   resend_line w place = go (nat_lt w (workers c)) refl (open_at (s.next w) (s.acked w) place) refl
     where
       go : (b : Bool) → nat_lt w (workers c) ≡ b → (o : Option ℕ) → open_at (s.next w) (s.acked w) place ≡ o
-          → let bytes : Option (List ℕ) = if b then option_map (λ k. row_bytes c (sent_packet s w k)) o else None in IsPacket bytes × ((if b then resend_fate o else Nothing) ≡ sent_of bytes)
+          → let bytes : Option (List ℕ) = if b then option_map (λ k. packet_bytes c (sent_packet s w k)) o else None in IsPacket bytes × ((if b then resend_fate o else Nothing) ≡ sent_of bytes)
       go true e None at = (tt, refl)
       go true e (Some k) at =
           let lt = ltb-true w (workers c) e in

@@ -1,14 +1,10 @@
 -- The trace of a run: a line for each event until the run stops, and how it stands then.
-use Rattle.std.specs.Prelude.{◌≡◌, ℕ, nat_lt, true, false, not, ◌&&◌, if◌then◌else◌, List, [], ◌∷◌, ◌++◌, map, slice_get, slice_index_or, Option, Some, None, option_map}
+use Rattle.std.specs.Prelude.{◌≡◌, ℕ, nat_lt, true, not, ◌&&◌, if◌then◌else◌, List, [], ◌∷◌, ◌++◌, map, slice_get, Option, Some, None, option_map}
 use Rattle.std.specs.List.{list_all}
-use Rattle.ch_packet.specs.Spelling.{spelling}
-use Rattle.ch_packet.specs.declared.packet.Packet.{Packet as Sent}
-use Rattle.ch_packet.specs.declared.packet.PacketKind.{PacketKind}
-use Rattle.ch_packet.specs.declared.packet.PacketKind.TheVariants as kind
-use Rattle.ch_protocol.specs.Packets.{Part, Packet, Ack, Origin}
-use Rattle.ch_protocol.specs.Packets.Origin.{Switch, Master}
+use Rattle.ch_ends.specs.Packets.{ack_bytes, packet_bytes, sent}
+use Rattle.ch_protocol.specs.Packets.{Packet}
 use Rattle.ch_protocol.specs.Sender.{open_at}
-use Rattle.ch_protocol.specs.Machine.{Config, State, Event, How, workers, row_at, is_fin, can_send, step, run, stopped, start}
+use Rattle.ch_protocol.specs.Machine.{Config, State, Event, How, workers, can_send, step, run, stopped, start}
 use Rattle.ch_protocol.specs.Machine.How.{Take, Keep, Lose}
 use Rattle.ch_protocol.specs.Machine.Event.{Send, Resend, Up, Down, Back, Inject, Restart}
 use Rattle.ch_protocol.specs.Fates.{event_fate}
@@ -28,57 +24,16 @@ use Rattle.ch_trace_lines.specs.declared.line.Line.{Line}
 use Rattle.ch_trace_lines.specs.declared.line.Line.TheVariants as line
 use Rattle.ch_trace_lines.specs.declared.line.Noted.{Noted}
 
-abbrev pub no_part : Part
-no_part = record { side = 0; tuples = [] }
-
-abbrev pub kind_at : Config → Packet → PacketKind
-kind_at c m = if is_fin c m.name then kind.Fin else kind.Row
-
--- a row or a Fin on a link; a Fin names no row, and so it has no words and its bit is 0
-abbrev pub row_packet : Config → Packet → Sent
-row_packet c m = record {
-  kind = kind_at c m;
-  pass = m.name.pass;
-  worker = m.name.worker;
-  side = (slice_index_or c.parts m.name.worker no_part).side;
-  number = m.name.number;
-  epoch = m.epoch;
-  bit = (row_at c m.name).bit;
-  words = (row_at c m.name).words;
-}
-
-abbrev pub origin_code : Origin → ℕ
-origin_code Switch = 0
-origin_code Master = 1
-
-abbrev pub ack_packet : Ack → Sent
-ack_packet a = record {
-  kind = kind.Ack;
-  pass = a.name.pass;
-  worker = a.name.worker;
-  side = origin_code a.origin;
-  number = a.name.number;
-  epoch = a.epoch;
-  bit = false;
-  words = [];
-}
-
-abbrev pub row_bytes : Config → Packet → List ℕ
-row_bytes c m = spelling (row_packet c m)
-
-abbrev pub ack_bytes : Ack → List ℕ
-ack_bytes a = spelling (ack_packet a)
-
 -- a number of a worker, as it goes on the link up now
 abbrev pub sent_packet : State → ℕ → ℕ → Packet
-sent_packet s w k = record { name = record { pass = s.pass; worker = w; number = k }; epoch = s.epoch }
+sent_packet s w k = sent s.pass w k s.epoch
 
 -- the bytes of the packet that an event puts on the link up, or that stands at its place before it
 abbrev pub bytes_of : Config → State → Event → Option (List ℕ)
-bytes_of c s (Send w) = if nat_lt w (workers c) && can_send c s w then Some (row_bytes c (sent_packet s w (s.next w))) else None
-bytes_of c s (Resend w place) = if nat_lt w (workers c) then option_map (λ k. row_bytes c (sent_packet s w k)) (open_at (s.next w) (s.acked w) place) else None
-bytes_of c s (Up i h) = option_map (row_bytes c) (slice_get s.up i)
-bytes_of c s (Down i h) = option_map (row_bytes c) (slice_get s.down i)
+bytes_of c s (Send w) = if nat_lt w (workers c) && can_send c s w then Some (packet_bytes c (sent_packet s w (s.next w))) else None
+bytes_of c s (Resend w place) = if nat_lt w (workers c) then option_map (λ k. packet_bytes c (sent_packet s w k)) (open_at (s.next w) (s.acked w) place) else None
+bytes_of c s (Up i h) = option_map (packet_bytes c) (slice_get s.up i)
+bytes_of c s (Down i h) = option_map (packet_bytes c) (slice_get s.down i)
 bytes_of c s (Back i h) = option_map ack_bytes (slice_get s.back i)
 bytes_of c s Inject = None
 bytes_of c s Restart = None

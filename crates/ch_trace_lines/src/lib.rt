@@ -7,8 +7,6 @@ mod field;
 mod laws;
 mod line;
 mod read;
-#[cfg(test)]
-mod tests;
 mod write;
 
 pub use cut::cut_line;

@@ -1,5 +1,5 @@
 -- What an errand comes to, unless its plan is refused.
-use Rattle.std.proofs.Common.{◌≡◌, ◌∙◌, ap, sym, refl, subst, ℕ, List, Option, Some, None}
+use Rattle.std.proofs.Common.{◌≡◌, ◌∙◌, sym, subst, Option, Some, None}
 use Rattle.std.specs.Prelude.{◌≢◌, option_map, IfErr, IfOk, Result, Ok, Err}
 use Rattle.ch_bind.specs.Binding.{plain_bound}
 use Rattle.ch_command.specs.Command.{refused}
@@ -10,10 +10,10 @@ use Rattle.ch_plan.specs.Needs.{need_of, plan_refusal}
 use Rattle.ch_plan.specs.declared.error.PlanError.{PlanError}
 use Rattle.ch_plan.specs.declared.error.PlanError.TheVariants.{Memory}
 use Rattle.ch_plan.specs.declared.kind.PlanKind.{PlanKind}
-use Rattle.cheetah.proofs.Planned.{same_limits}
-use Rattle.cheetah.specs.Planning.{limit_exceeded, plan_line}
 use Rattle.cheetah_audit_meaning.specs.Meaning.{WithinLimits}
+use Rattle.cheetah_inputs.proofs.Limits.{limit_found, same_limits}
 use Rattle.cheetah_inputs.specs.Inputs.{given_of}
+use Rattle.cheetah_inputs.specs.Limits.{limit_exceeded, plan_line}
 use Rattle.cheetah_inputs.specs.declared.inputs.Inputs.{Inputs}
 use Rattle.cheetah_audit.specs.Result.{runs}
 
@@ -37,15 +37,7 @@ module _ (inputs : Inputs) (done : Outcome → Type 0) where
       → (plan_refusal (need_of inputs.bound inputs.profile) inputs.profile ≡ None → IfErr result (λ e. e ≡ Memory))
       → IfOk r (λ outcome. (error ≢ Memory) × (outcome ≡ refused Rejected (plan_line error)))
       → IfOk r (λ outcome. WithinLimits (runs.refusal (given_of inputs)) done outcome)
-  refusal_comes {P} error result (Err e) is refused_by memory_by said = tt
-  refusal_comes {P} error result (Ok outcome) is refused_by memory_by said = by (plan_refusal (need_of inputs.bound inputs.profile) inputs.profile) refl
-    where
-      same_error : (e f : PlanError) (x y : Result P PlanError) → x ≡ Err e → y ≡ Err f → x ≡ y → e ≡ f
-      same_error e f x y p q h = cc
-
-      by : (o : Option PlanError) → plan_refusal (need_of inputs.bound inputs.profile) inputs.profile ≡ o → WithinLimits (runs.refusal (given_of inputs)) done outcome
-      by None none = absurd (said.0 (rw is at (memory_by none)))
-      by (Some e) some =
-          let same : error ≡ e = same_error error e result result is (refused_by e some) refl in
-          let limited : limit ≡ Some e = same_limits inputs.bound inputs.profile ∙ some in
-          subst (λ (o : Option PlanError). WithinLimits (option_map plan_line o) done outcome) (sym limited) (said.1 ∙ ap (λ (x : PlanError). refused Rejected (plan_line x)) same)
+  refusal_comes error result (Err e) is refused_by memory_by said = tt
+  refusal_comes error result (Ok outcome) is refused_by memory_by said =
+      let limited : limit ≡ Some error = limit_found inputs.bound inputs.profile error result is said.0 refused_by memory_by in
+      subst (λ (o : Option PlanError). WithinLimits (option_map plan_line o) done outcome) (sym limited) said.1

@@ -2,25 +2,24 @@ ghost use Rattle.std.specs.Prelude.{◌≡◌, ◌≢◌, ◌≤◌, length, IfO
 ghost use Rattle.ch_command.specs.Command.{refused};
 ghost use Rattle.ch_command.specs.Reading.{most_bytes};
 ghost use Rattle.ch_plan.specs.Kinds.{IsPlanOf};
-ghost use Rattle.cheetah.specs.Planning as planning;
 ghost use Rattle.cheetah_audit_meaning.specs.Meaning.{Checks, OfTrace, Writes};
 ghost use Rattle.cheetah_inputs.specs.Inputs.{given_of};
+ghost use Rattle.cheetah_inputs.specs.Limits as limits;
 ghost use Rattle.cheetah_run.specs.Asking.{AreAsked};
 ghost use Rattle.cheetah_run.specs.Running.{config_of};
 ghost use Rattle.cheetah_audit.specs.Result.{runs};
 
-use crate::planned::plan_line;
 use crate::running::{check_run, write_run};
 use ch_audit_runs::Checked;
 use ch_cells::Memory;
 use ch_command::{Ending, Outcome};
 use ch_plan::{PlanError, Planned, plan};
-use cheetah_inputs::Inputs;
+use cheetah_inputs::{Inputs, plan_line};
 use std::alloc::Global;
 
 /// The plan is refused, which want of memory is not.
 fn refuse_plan(alloc: Global, error: PlanError) -> Result<Outcome, Memory>
-    ensures { IfOk result (λ outcome. (error ≢ PlanError.Memory) × (outcome ≡ refused Ending.Rejected (planning.plan_line error))) }
+    ensures { IfOk result (λ outcome. (error ≢ PlanError.Memory) × (outcome ≡ refused Ending.Rejected (limits.plan_line error))) }
 {
     let line = plan_line(alloc, error)?;
     Ok(Outcome::refused(alloc, Ending::Rejected, line))

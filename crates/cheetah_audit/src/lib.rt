@@ -4,7 +4,6 @@
 mod audited;
 mod errands;
 mod laws;
-mod planned;
 mod running;
 mod top;
 mod verdict;

@@ -4,6 +4,3 @@
 mod words;
 
 pub use words::{Errand, Task, errand_in};
-
-#[cfg(test)]
-mod tests;
