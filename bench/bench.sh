@@ -3,16 +3,17 @@
 # It makes a table `k,v,b` of so many rows in four parts, one of a quarter of them, and for the skyline two of a tenth of
 # each, with a table `k,y` of 100 rows; asks both programs the same of the same files; and compares the answers. A line has the
 # processor time of both in seconds, user and system, what a row costs cheetah, how many times a quarter's time that is, and
-# the peak memory in megabytes. Without sqlite3, which is Debian's package, it measures cheetah alone and says so.
+# the peak memory in megabytes. Without sqlite3, which is Debian's package, it measures cheetah alone and says so. A program that is
+# built already is measured by CHEETAH=FILE.
 set -eu
 rows=${1:-1000000}
 seed=${2:-1}
 top=$(cd "$(dirname "${BASH_SOURCE[0]}")/.." && pwd)
-program=$top/crates/cheetah_main/out/cheetah_main
+program=${CHEETAH:-$top/crates/cheetah_main/out/cheetah_main}
 [ -x /usr/bin/time ] || { echo 'bench.sh: install time first' >&2; exit 2; }
 beside=yes
 command -v sqlite3 >/dev/null || { echo 'bench.sh: there is no sqlite3, so cheetah is measured alone' >&2; beside=no; }
-"$top/build.sh" cheetah_main --query 'SELECT a FROM t' "t=$top/examples/filter/t.csv"
+[ -n "${CHEETAH:-}" ] || "$top/build.sh" cheetah_main --query 'SELECT a FROM t' "t=$top/examples/filter/t.csv"
 folder=$(mktemp -d)
 trap 'rm -rf "$folder"' EXIT
 cd "$folder"
