@@ -27,8 +27,8 @@ use Rattle.ch_pred.specs.declared.pred.Col.{Col}
 use Rattle.ch_prune.specs.Sent.{is_cell_word, is_countable}
 use Rattle.ch_ranks.specs.Dictionary.{Ascends, rank_in, text_cmp}
 use Rattle.ch_ranks.proofs.Ascending.{among_from}
-use Rattle.ch_survival.specs.Asked.{asked_gate}
-use Rattle.ch_survival.specs.InRange.{AreInRange}
+use Rattle.ch_parts.specs.Asked.{asked_gate}
+use Rattle.ch_parts.specs.InRange.{AreInRange}
 use Rattle.ch_table_words.proofs.Dictionaries.{all_there}
 use Rattle.ch_tables.specs.Table.{IsOfKind}
 use Rattle.ch_tables.specs.TableValue.{TableValue}

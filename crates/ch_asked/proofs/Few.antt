@@ -10,7 +10,7 @@ use Rattle.ch_pred.specs.declared.bound.Bound.{Bound}
 use Rattle.ch_protocol.specs.Packets.{Part}
 use Rattle.ch_protocol.specs.Sets.{numbers_from}
 use Rattle.ch_protocol.proofs.Lists.{In-numbers_from}
-use Rattle.ch_stands.specs.Team.{sizes_of}
+use Rattle.ch_parts.specs.Team.{sizes_of}
 use Rattle.ch_tables.specs.TableValue.{TableValue}
 use Rattle.ch_parts.specs.Scanned.{part_of, parts_of, parts_of_side, parts_of_table, table_at, tuple_of}
 use Rattle.ch_asked.specs.Suits.{AreSmall}

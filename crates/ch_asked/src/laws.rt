@@ -14,7 +14,7 @@ ghost use Rattle.ch_bind.specs.Binding.{bound_of, plain_bound};
 ghost use Rattle.ch_bind.specs.Checks.{bind_refusal};
 ghost use Rattle.ch_bind.specs.Sums.{sum_refusal};
 ghost use Rattle.ch_parts.specs.Scanned.{AreTables, parts_of};
-ghost use Rattle.ch_stands.specs.Team.{sizes_of};
+ghost use Rattle.ch_parts.specs.Team.{sizes_of};
 ghost use Rattle.ch_asked.specs.Suits.{AreSmall, IsBoundTo, IsTyped};
 ghost use Rattle.ch_bind.specs.Shapes.{shape_of};
 ghost use Rattle.ch_asked.specs.Texts.{asked_texts, dictionary_of};

@@ -5,8 +5,6 @@ mod error;
 mod laws;
 mod place;
 mod read;
-#[cfg(test)]
-mod tests;
 mod write;
 
 pub use error::AsmError;

@@ -13,7 +13,7 @@ use Rattle.std.proofs.lemmas.Fmt.{digits_decimal}
 use Rattle.std.proofs.lemmas.Int.{ints}
 use Rattle.ch_asm_lines.specs.Reading.{cut_of}
 use Rattle.ch_asm_lines.proofs.Options.{mapped}
-use Rattle.ch_asm_lines.proofs.Digits.{own}
+use Rattle.ch_numbers.proofs.Digits.{own}
 
 abbrev pub is_item_byte : ℕ → Bool
 is_item_byte b = nat_lt 32 b && not (b == 44)

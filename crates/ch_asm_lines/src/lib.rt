@@ -8,8 +8,6 @@ mod list;
 mod number;
 mod part;
 mod read;
-#[cfg(test)]
-mod tests;
 mod write;
 mod write_part;
 

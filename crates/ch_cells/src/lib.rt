@@ -18,6 +18,3 @@ pub use memory::Memory;
 pub use number::{read_number, spelling_is_decimal};
 pub use outcome::{Answer, Counts, OpenFlow};
 pub use row::{Header, Row, cmp_rows, copy_row, rows_are_ordered, sort_rows};
-
-#[cfg(test)]
-mod tests;

@@ -12,6 +12,3 @@ pub use outcome::{Ending, Outcome};
 pub use reading::read_files;
 pub use status::Status;
 pub use verdict::{Misuse, Verdict};
-
-#[cfg(test)]
-mod tests;

@@ -1,3 +1,4 @@
 pub mod Bits
+pub mod Packets
 pub mod Worker
 pub mod Master

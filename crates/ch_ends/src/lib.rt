@@ -7,6 +7,3 @@ mod worker;
 
 pub use master::Master;
 pub use worker::Worker;
-
-#[cfg(test)]
-mod tests;

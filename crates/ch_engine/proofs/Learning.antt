@@ -18,7 +18,7 @@ use Rattle.ch_protocol.specs.Fates.{back_fate}
 use Rattle.ch_protocol.specs.declared.fate.NoteFate.TheVariants.{Taken, Ignored, Lost}
 use Rattle.ch_protocol.proofs.Tests.{least-le}
 use Rattle.ch_survival.specs.Given.{Given, IsPlanned}
-use Rattle.ch_stands.specs.Packets.{ack_for, ack_bytes}
+use Rattle.ch_ends.specs.Packets.{ack_for, ack_bytes}
 use Rattle.ch_stands.specs.Parties.{WorkersStand, first_undone}
 use Rattle.ch_stands.specs.Team.{is_over}
 use Rattle.ch_stands.proofs.Lists.{at_place, link_lift}

@@ -19,7 +19,7 @@ use Rattle.ch_protocol.specs.declared.fate.Fate.TheVariants.{Dropped, Pruned, Fo
 use Rattle.ch_protocol.specs.declared.fate.NoteFate.TheVariants.{Lost}
 use Rattle.ch_switch.specs.Switching.{Switching, MayMeet, Expects, Stays, expected_at, is_pruned, registers_after}
 use Rattle.ch_survival.specs.Given.{Given, IsPlanned}
-use Rattle.ch_stands.specs.Packets.{packet_for, bytes_of, ack_bytes}
+use Rattle.ch_ends.specs.Packets.{packet_for, packet_bytes, ack_bytes}
 use Rattle.ch_stands.specs.Parties.{SwitchStands}
 use Rattle.ch_stands.proofs.Lists.{at_place, link_lift, link_push}
 use Rattle.ch_stands.proofs.Places.{SentAt, only_at}
@@ -58,7 +58,7 @@ noted_there g x s i bytes u sw fate p sound h t = rw u.is (ap switch_fate (fate_
 -- the run stands for a state with another switch, other links and other counts
 pub built : (g : Given) (x : Engine) (s : State) (sw : Switching) (up down back : Held) (n : RustCounts)
     (expected : ℕ → ℕ → ℕ) (processed : List Entry) (ups downs : List Packet) (backs : List Ack) (counts : Counts)
-    → Stands g x s → SwitchStands g sw s.epoch expected processed → up.packets ≡ map (bytes_of g.config) ups → down.packets ≡ map (bytes_of g.config) downs → back.packets ≡ map ack_bytes backs
+    → Stands g x s → SwitchStands g sw s.epoch expected processed → up.packets ≡ map (packet_bytes g.config) ups → down.packets ≡ map (packet_bytes g.config) downs → back.packets ≡ map ack_bytes backs
     → counts_of n ≡ counts
     → Stands g (record x { switch = sw; up = up; down = down; back = back; counts = n }) (record s { expected = expected; processed = processed; up = ups; down = downs; back = backs; counts = counts })
 built g x s sw up down back n expected processed ups downs backs counts h a b d e f = record {
@@ -86,14 +86,14 @@ pub dropped : (g : Given) (x : Engine) (s : State) (i : ℕ) (bytes : List ℕ) 
 dropped g x s i bytes stays u sw up down back p sound h t a b d =
     subst (λ (y : State). Stands g (record x { switch = sw; up = up; down = down; back = back }) y) (sym (there g x s i bytes stays u sw Dropped p sound h t))
     (built g x s sw up down back x.counts _ _ _ _ _ _ h (switch_stands g s x.switch sw Dropped u.m p sound u.known h.switch t)
-    (link_lift (bytes_of g.config) s.up i stays x.up.packets up.packets a h.up) (b ∙ h.down) (d ∙ h.back) h.counts)
+    (link_lift (packet_bytes g.config) s.up i stays x.up.packets up.packets a h.up) (b ∙ h.down) (d ∙ h.back) h.counts)
 
 -- the run after a packet that went down, because it was accepted or because it came again
 pub went_down : (g : Given) (x : Engine) (s : State) (i : ℕ) (bytes : List ℕ) (stays : Bool) (u : SentAt g s s.up i bytes) (sw : Switching) (fate : Fate) (up down back : Held) (n : RustCounts)
     → (fate ≡ Forwarded) ⊎ (fate ≡ Passed)
     → IsPlanned g → IsSound g.config s → Stands g x s → Meets x.switch sw fate (packet_for g.config u.m)
     → up.packets ≡ (if stays then x.up.packets else remove x.up.packets i)
-    → down.packets ≡ map (bytes_of g.config) (s.down ++ record { name = u.m.name; epoch = s.epoch } ∷ [])
+    → down.packets ≡ map (packet_bytes g.config) (s.down ++ record { name = u.m.name; epoch = s.epoch } ∷ [])
     → back.packets ≡ x.back.packets
     → counts_of n ≡ record s.counts { forwarded = one_more s.counts.forwarded }
     → Stands g (record x { switch = sw; up = up; down = down; back = back; counts = n }) (meet_there g.config s i stays (slice_get s.up i))
@@ -115,9 +115,9 @@ went_down g x s i bytes stays u sw fate up down back n which p sound h t a b d e
 
     go : (fate ≡ Forwarded) ⊎ (fate ≡ Passed) → Stands g y (follow (is_fin c u.m.name) fate s' u.m.name)
     go (inl q) = subst (λ (k : Fate). Stands g y (follow (is_fin c u.m.name) k s' u.m.name)) (sym q)
-        (built g x s sw up down back n _ _ _ _ _ _ h (at Forwarded q) (link_lift (bytes_of c) s.up i stays x.up.packets up.packets a h.up) b (d ∙ h.back) e)
+        (built g x s sw up down back n _ _ _ _ _ _ h (at Forwarded q) (link_lift (packet_bytes c) s.up i stays x.up.packets up.packets a h.up) b (d ∙ h.back) e)
     go (inr q) = subst (λ (k : Fate). Stands g y (follow (is_fin c u.m.name) k s' u.m.name)) (sym q)
-        (built g x s sw up down back n _ _ _ _ _ _ h (at Passed q) (link_lift (bytes_of c) s.up i stays x.up.packets up.packets a h.up) b (d ∙ h.back) e)
+        (built g x s sw up down back n _ _ _ _ _ _ h (at Passed q) (link_lift (packet_bytes c) s.up i stays x.up.packets up.packets a h.up) b (d ∙ h.back) e)
 
 -- the run after a row that was pruned
 pub pruned : (g : Given) (x : Engine) (s : State) (i : ℕ) (bytes : List ℕ) (stays : Bool) (u : SentAt g s s.up i bytes) (sw : Switching) (up down back : Held) (n : RustCounts)
@@ -129,7 +129,7 @@ pub pruned : (g : Given) (x : Engine) (s : State) (i : ℕ) (bytes : List ℕ) (
 pruned g x s i bytes stays u sw up down back n p sound h t a b d e =
     subst (λ (y : State). Stands g (record x { switch = sw; up = up; down = down; back = back; counts = n }) y) (sym (there g x s i bytes stays u sw Pruned p sound h t))
     (built g x s sw up down back n _ _ _ _ _ _ h (switch_stands g s x.switch sw Pruned u.m p sound u.known h.switch t)
-    (link_lift (bytes_of g.config) s.up i stays x.up.packets up.packets a h.up) (b ∙ h.down) d e)
+    (link_lift (packet_bytes g.config) s.up i stays x.up.packets up.packets a h.up) (b ∙ h.down) d e)
 
 pub may_meet_at : (g : Given) (x : Engine) (s : State) (i : ℕ) (bytes : List ℕ) (u : SentAt g s s.up i bytes) → IsPlanned g → IsSound g.config s → Stands g x s
     → (b : BytePacket) → IsPacket b → bytes ≡ spelling b → MayMeet x.switch b
@@ -141,9 +141,9 @@ may_meet_at g x s i bytes u p sound h b is e =
 pub down_more : (g : Given) (x : Engine) (s : State) (i : ℕ) (bytes : List ℕ) (u : SentAt g s s.up i bytes) → Stands g x s
     → (old new : List (List ℕ)) (b : List ℕ) (epoch : ℕ) → new ≡ old ++ b ∷ [] → old ≡ x.down.packets → epoch ≡ x.switch.epoch
     → b ≡ spelling (record (packet_for g.config u.m) { epoch = epoch })
-    → new ≡ map (bytes_of g.config) (s.down ++ record { name = u.m.name; epoch = s.epoch } ∷ [])
+    → new ≡ map (packet_bytes g.config) (s.down ++ record { name = u.m.name; epoch = s.epoch } ∷ [])
 down_more g x s i bytes u h old new b epoch n o e is =
-    link_push (bytes_of g.config) s.down (record { name = u.m.name; epoch = s.epoch }) old new b n (o ∙ h.down)
+    link_push (packet_bytes g.config) s.down (record { name = u.m.name; epoch = s.epoch }) old new b n (o ∙ h.down)
     (is ∙ ap (λ (k : ℕ). spelling (record (packet_for g.config u.m) { epoch = k })) (e ∙ h.switch.epoch_is))
 
 -- the switch acknowledged the row
@@ -180,7 +180,7 @@ keeps c s i (Some m) = refl
 pub lost_up : (g : Given) (x : Engine) (s : State) (i : ℕ) (up : Held) → Stands g x s → i < length x.up.packets → up.packets ≡ remove x.up.packets i
     → Stands g (record x { up = up }) (meet_at g.config s i Lose (slice_get s.up i))
 lost_up g x s i up h lt e =
-    let a = at_place (bytes_of g.config) s.up i (subst (λ (l : List (List ℕ)). i < length l) h.up lt) in
+    let a = at_place (packet_bytes g.config) s.up i (subst (λ (l : List (List ℕ)). i < length l) h.up lt) in
     rw a.is (record {
       parts = h.parts;
       kind = h.kind;
@@ -190,7 +190,7 @@ lost_up g x s i up h lt e =
       first = h.first;
       switch = h.switch;
       master = h.master;
-      up = link_lift (bytes_of g.config) s.up i false x.up.packets up.packets e h.up;
+      up = link_lift (packet_bytes g.config) s.up i false x.up.packets up.packets e h.up;
       down = h.down;
       back = h.back;
       fold = h.fold;
@@ -200,5 +200,5 @@ lost_up g x s i up h lt e =
 
 pub lost_note : (g : Given) (x : Engine) (s : State) (i : ℕ) → Stands g x s → i < length x.up.packets → Lost ≡ up_fate g.config s Lose (slice_get s.up i)
 lost_note g x s i h lt =
-    let a = at_place (bytes_of g.config) s.up i (subst (λ (l : List (List ℕ)). i < length l) h.up lt) in
+    let a = at_place (packet_bytes g.config) s.up i (subst (λ (l : List (List ℕ)). i < length l) h.up lt) in
     rw a.is refl

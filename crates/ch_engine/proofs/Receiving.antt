@@ -22,7 +22,7 @@ use Rattle.ch_protocol.specs.Invariant.{IsSound}
 use Rattle.ch_protocol.specs.Fates.{down_fate}
 use Rattle.ch_protocol.specs.declared.fate.NoteFate.TheVariants.{New, Old, Lost}
 use Rattle.ch_survival.specs.Given.{Given, IsPlanned}
-use Rattle.ch_stands.specs.Packets.{packet_for, bytes_of, ack_bytes}
+use Rattle.ch_ends.specs.Packets.{packet_for, packet_bytes, ack_bytes}
 use Rattle.ch_stands.proofs.Lists.{at_place, link_lift, link_push}
 use Rattle.ch_stands.proofs.Places.{SentAt, only_at}
 use Rattle.ch_stands.proofs.Spelled.{side_is, row_is_there}
@@ -92,7 +92,7 @@ received_stands g x s i bytes stays u last master fold down back old arriving b 
       switch = h.switch;
       master = master_more c x.master master u.m.name s.received h.master numbers t;
       up = h.up;
-      down = link_lift (bytes_of c) s.down i stays x.down.packets down.packets d h.down;
+      down = link_lift (packet_bytes c) s.down i stays x.down.packets down.packets d h.down;
       back = link_push ack_bytes s.back (record { origin = Master; name = u.m.name; epoch = u.m.epoch }) old.packets back.packets b k (o ∙ h.back) is;
       fold = folded_more g x s i bytes u last fold sound h l f;
       counts = h.counts;
@@ -118,7 +118,7 @@ kept c s i (Some m) = refl
 pub lost_down : (g : Given) (x : Engine) (s : State) (i : ℕ) (down : Held) → Stands g x s → i < length x.down.packets → down.packets ≡ remove x.down.packets i
     → Stands g (record x { down = down }) (receive_at s i Lose (slice_get s.down i))
 lost_down g x s i down h lt e =
-    let a = at_place (bytes_of g.config) s.down i (subst (λ (l : List (List ℕ)). i < length l) h.down lt) in
+    let a = at_place (packet_bytes g.config) s.down i (subst (λ (l : List (List ℕ)). i < length l) h.down lt) in
     rw a.is (record {
       parts = h.parts;
       kind = h.kind;
@@ -129,7 +129,7 @@ lost_down g x s i down h lt e =
       switch = h.switch;
       master = h.master;
       up = h.up;
-      down = link_lift (bytes_of g.config) s.down i false x.down.packets down.packets e h.down;
+      down = link_lift (packet_bytes g.config) s.down i false x.down.packets down.packets e h.down;
       back = h.back;
       fold = h.fold;
       counts = h.counts;
@@ -138,5 +138,5 @@ lost_down g x s i down h lt e =
 
 pub lost_down_note : (g : Given) (x : Engine) (s : State) (i : ℕ) → Stands g x s → i < length x.down.packets → Lost ≡ down_fate s Lose (slice_get s.down i)
 lost_down_note g x s i h lt =
-    let a = at_place (bytes_of g.config) s.down i (subst (λ (l : List (List ℕ)). i < length l) h.down lt) in
+    let a = at_place (packet_bytes g.config) s.down i (subst (λ (l : List (List ℕ)). i < length l) h.down lt) in
     rw a.is refl

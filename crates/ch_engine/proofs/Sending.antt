@@ -14,8 +14,8 @@ use Rattle.ch_protocol.specs.Fates.{send_fate}
 use Rattle.ch_protocol.proofs.Lists.{In-get, In-numbers}
 use Rattle.ch_protocol.proofs.Tests.{set_at-same, set_at-other}
 use Rattle.ch_protocol.specs.declared.fate.NoteFate.TheVariants.{Nothing, Sent}
-use Rattle.ch_survival.specs.Given.{Given, no_part}
-use Rattle.ch_stands.specs.Packets.{packet_for, bytes_of, sent}
+use Rattle.ch_survival.specs.Given.{Given}
+use Rattle.ch_ends.specs.Packets.{no_part, packet_bytes, packet_for, sent}
 use Rattle.ch_stands.proofs.Lists.{link_push, length-map}
 use Rattle.ch_stands.proofs.Spelled.{spelled_name, is_pass, passes_le, rows_part}
 use Rattle.ch_stands.proofs.Progressing.{workers_set}
@@ -51,7 +51,7 @@ sends_more g x s n h e = rw (e, ← h.counts) refl
 
 -- the run after a number went up
 pub went_up : (g : Given) (x : Engine) (s : State) (w k epoch n : ℕ) (old up : Held) (b : List ℕ) (sending : Vec ℤ Global) → Stands g x s → up.packets ≡ old.packets ++ b ∷ [] → old.packets ≡ x.up.packets
-    → b ≡ bytes_of g.config (sent x.pass w k epoch) → epoch ≡ x.switch.epoch → n ≡ grown x.counts.sends
+    → b ≡ packet_bytes g.config (sent x.pass w k epoch) → epoch ≡ x.switch.epoch → n ≡ grown x.counts.sends
     → Stands g (record x { up = up; counts = record x.counts { sends = n }; sending = sending }) (go_up s w k)
 went_up g x s w k epoch n old up b sending h u o is e grew = record {
   parts = h.parts;
@@ -62,7 +62,7 @@ went_up g x s w k epoch n old up b sending h u o is e grew = record {
   first = h.first;
   switch = h.switch;
   master = h.master;
-  up = link_push (bytes_of g.config) s.up (sent s.pass w k s.epoch) old.packets up.packets b u (o ∙ h.up) (is ∙ (ap (λ (p : ℕ). bytes_of g.config (sent p w k epoch)) h.pass ∙ ap (λ (p : ℕ). bytes_of g.config (sent s.pass w k p)) (e ∙ h.switch.epoch_is)));
+  up = link_push (packet_bytes g.config) s.up (sent s.pass w k s.epoch) old.packets up.packets b u (o ∙ h.up) (is ∙ (ap (λ (p : ℕ). packet_bytes g.config (sent p w k epoch)) h.pass ∙ ap (λ (p : ℕ). packet_bytes g.config (sent s.pass w k p)) (e ∙ h.switch.epoch_is)));
   down = h.down;
   back = h.back;
   fold = h.fold;

@@ -17,7 +17,7 @@ use Rattle.ch_protocol.specs.declared.fate.NoteFate.TheVariants.{Nothing, New, O
 use Rattle.ch_schedule.specs.declared.step.Step.{Step}
 use Rattle.ch_schedule.specs.declared.step.Step.TheVariants as step
 use Rattle.ch_survival.specs.Given.{Given, IsPlanned}
-use Rattle.ch_stands.specs.Packets.{bytes_of, ack_bytes}
+use Rattle.ch_ends.specs.Packets.{packet_bytes, ack_bytes}
 use Rattle.ch_stands.specs.Parties.{WorkersStand, SwitchStands, MasterStands, first_undone}
 use Rattle.ch_engine.specs.declared.engine.Engine.{Engine}
 
@@ -40,8 +40,8 @@ pub record Stands (g : Given) (x : Engine) (s : State) : Type 0 where
   pub first : x.first_open ≡ first_undone g.config s.acked
   pub switch : SwitchStands g x.switch s.epoch s.expected s.processed
   pub master : MasterStands g.config x.master s.received
-  pub up : x.up.packets ≡ map (bytes_of g.config) s.up
-  pub down : x.down.packets ≡ map (bytes_of g.config) s.down
+  pub up : x.up.packets ≡ map (packet_bytes g.config) s.up
+  pub down : x.down.packets ≡ map (packet_bytes g.config) s.down
   pub back : x.back.packets ≡ map ack_bytes s.back
   pub fold : StandsFor x.ranks.now x.bound.now x.fold (rows_arrived g.config (passes g.config) s.received)
   pub counts : counts_of x.counts ≡ s.counts

@@ -4,7 +4,7 @@ ghost use Rattle.std.specs.Cmp.Lexicographic.{slice_cmp};
 ghost use Rattle.ch_lists.specs.Ordered.{ordered};
 ghost use Rattle.ch_flat.specs.Flat.{Flat, pick, with_row};
 
-use crate::words::{add_picked, all_starts, row_from, sort_heads, with_heads};
+use crate::words::{add_picked, all_starts, places_of, row_from, sort_heads, with_heads};
 use ch_cells::Memory;
 use std::alloc::Global;
 use std::marker::Model;
@@ -70,7 +70,7 @@ impl Rows {
     }
 
     /// The rows in ascending order: word by word from the first one on. No word is copied.
-    #[tactic(auto, using(crate::proofs::Heads::heads_rows))]
+    #[tactic(auto, using(crate::proofs::Heads::heads_rows, crate::proofs::Heads::places_rows))]
     pub fn sorted(&self, alloc: Global) -> Result<Sorted<'_>, Memory>
         ensures { IfOk result (λ rows. rows ≡ ordered (slice_cmp int_cmp) self.now.rows) }
     {
@@ -78,11 +78,13 @@ impl Rows {
         let width = self.width;
         let starts = all_starts(alloc, width, self.count)?;
         let mut heads = with_heads(alloc, words, width, starts.as_slice())?;
+        drop(starts);
         sort_heads(words, width, &mut heads);
+        let places = places_of(alloc, heads.as_slice())?;
         Ok(Sorted {
             words,
             width,
-            heads,
+            places,
         })
     }
 }
@@ -92,17 +94,17 @@ impl Rows {
 pub struct Sorted<'a> {
     words: &'a [i64],
     width: usize,
-    /// The places of the rows, each with its row's first word.
-    heads: Vec<(Option<i64>, usize)>,
+    /// The places where the rows begin.
+    places: Vec<usize>,
 }
 
 impl<'a> Model for Sorted<'a> {
     ghost use Rattle.std.specs.Prelude.{List, ℤ, map};
-    ghost use Rattle.ch_flat.specs.Heads.{row_of_head};
+    ghost use Rattle.ch_flat.specs.Flat.{row_from};
 
     ghost Value = { List (List ℤ) };
 
-    ghost view = { λ s. map (row_of_head s.width s.words.now) s.heads.items };
+    ghost view = { λ s. map (row_from s.width s.words.now) s.places.items };
 }
 
 impl<'a> Sorted<'a> {
@@ -110,7 +112,7 @@ impl<'a> Sorted<'a> {
     pub fn len(&self) -> usize
         ensures { result ≡ length self.now }
     {
-        self.heads.len()
+        self.places.len()
     }
 
     /// The row at a place of the order.
@@ -118,6 +120,6 @@ impl<'a> Sorted<'a> {
         requires { at < length self.now }
         ensures { result.now ≡ slice_index_or self.now at [] }
     {
-        row_from(self.words, self.width, self.heads[at].1)
+        row_from(self.words, self.width, self.places[at])
     }
 }

@@ -28,20 +28,19 @@ fn shown_cell(ranks: &Ranks, kind: Kind, word: i64) -> CellRef<'_>
 }
 
 /// The cells of a line.
-
 #[tactic(auto, using(crate::proofs::Lines::shown_more))]
 fn shown_line(alloc: Global, ranks: &Ranks, kinds: &[Kind], words: &[i64]) -> Result<Row, Memory>
     ensures { IfOk result (λ row. row ≡ spec.shown_line ranks.now kinds.now words.now) }
 {
-    let mut row = Listed::new(alloc);
+    let mut row = Vec::with_capacity(alloc, words.len())?;
     for (i, word) in words.iter().enumerate() {
         let kind = match kinds.get(i) {
             Some(kind) => *kind,
             None => Kind::Number,
         };
-        row.push(copy_lent(alloc, shown_cell(ranks, kind, *word))?)?;
+        row.push_reserved(copy_lent(alloc, shown_cell(ranks, kind, *word))?);
     }
-    Ok(row)
+    Ok(Listed::from_vec(row))
 }
 
 fn shown_lines(
@@ -52,11 +51,11 @@ fn shown_lines(
 ) -> Result<Listed<Row>, Memory>
     ensures { IfOk result (λ rows. rows ≡ map (spec.shown_line ranks.now kinds.now) lines.now) }
 {
-    let mut rows = Listed::new(alloc);
+    let mut rows = Vec::with_capacity(alloc, lines.len())?;
     for at in 0..lines.len() {
-        rows.push(shown_line(alloc, ranks, kinds, lines.row(at))?)?;
+        rows.push_reserved(shown_line(alloc, ranks, kinds, lines.row(at))?);
     }
-    Ok(rows)
+    Ok(Listed::from_vec(rows))
 }
 
 fn shown_slices(
@@ -67,21 +66,21 @@ fn shown_slices(
 ) -> Result<Listed<Row>, Memory>
     ensures { IfOk result (λ rows. rows ≡ map (spec.shown_line ranks.now kinds.now) (map (λ l. l.now) lines.now)) }
 {
-    let mut rows = Listed::new(alloc);
+    let mut rows = Vec::with_capacity(alloc, lines.len())?;
     for line in lines {
-        rows.push(shown_line(alloc, ranks, kinds, line)?)?;
+        rows.push_reserved(shown_line(alloc, ranks, kinds, line)?);
     }
-    Ok(rows)
+    Ok(Listed::from_vec(rows))
 }
 
 fn copy_header(alloc: Global, header: &Header) -> Result<Header, Memory>
     ensures { IfOk result (λ copy. copy ≡ header.now) }
 {
-    let mut copy = Listed::new(alloc);
+    let mut copy = Vec::with_capacity(alloc, header.len())?;
     for name in header.as_slice() {
-        copy.push(Bytes::from_slice(alloc, name.as_slice())?)?;
+        copy.push_reserved(Bytes::from_slice(alloc, name.as_slice())?);
     }
-    Ok(copy)
+    Ok(Listed::from_vec(copy))
 }
 
 /// The answer that has the cells of some lines, in their order.

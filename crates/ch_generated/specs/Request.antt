@@ -1,20 +1,9 @@
 -- What the words `SEED ROWS KIND` behind the program's name ask for.
-use Rattle.std.specs.Prelude.{ℕ, zero, suc, ◌+◌, ◌-◌, ◌*◌, ◌&&◌, ◌==◌, nat_le, if◌then◌else◌, List, [], ◌∷◌, Option, Some, None, bytes_eq, codes, option_and_then, option_map}
-use Rattle.ch_cells.specs.Number.{is_digit}
+use Rattle.std.specs.Prelude.{ℕ, zero, suc, if◌then◌else◌, List, [], ◌∷◌, Option, Some, None, bytes_eq, codes, option_and_then, option_map}
+use Rattle.ch_numbers.specs.Natural.{natural_of}
 use Rattle.ch_generated.specs.declared.request.InputKind.{InputKind}
 use Rattle.ch_generated.specs.declared.request.InputKind.TheVariants.{Filter, Distinct, Top, Group, Having, Join, Skyline}
 use Rattle.ch_generated.specs.declared.request.Request.{Request}
-
--- the number, at most `most`, that the digits spell when they follow those of n
-abbrev pub digits_from : ℕ → ℕ → List ℕ → Option ℕ
-digits_from most n [] = Some n
-digits_from most n (c ∷ cs) = if is_digit c && nat_le (n * 10 + (c - 48)) most then digits_from most (n * 10 + (c - 48)) cs else None
-
--- the number, at most `most`, that a text spells: `0`, or a digit 1 to 9 and digits
-abbrev pub natural_of : ℕ → List ℕ → Option ℕ
-natural_of most [] = None
-natural_of most (c ∷ []) = digits_from most 0 (c ∷ [])
-natural_of most (c ∷ d ∷ cs) = if c == 48 then None else digits_from most 0 (c ∷ d ∷ cs)
 
 -- a number of 64 bits
 unfoldable pub seed_of : List ℕ → Option ℕ

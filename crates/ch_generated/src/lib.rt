@@ -13,6 +13,3 @@ pub use inputs::{command_words, files_of, query_text};
 pub use request::{InputKind, Request, requested_in};
 pub use summary::summary_front;
 pub use table_text::TableRow;
-
-#[cfg(test)]
-mod tests;

@@ -1,6 +1,8 @@
-ghost use Rattle.std.specs.Prelude.{◌≡◌, ◌≤◌, ◌^◌, IfSome, map, string_bytes};
+ghost use Rattle.std.specs.Prelude.{◌≡◌, ◌≤◌, map, string_bytes};
 ghost use Rattle.ch_generated.specs.Request as spec;
-ghost use Rattle.ch_generated.specs.Request.{natural_of, positive, request_of, request_with, rows_of, seed_of};
+ghost use Rattle.ch_generated.specs.Request.{positive, request_of, request_with, rows_of, seed_of};
+
+use ch_numbers::natural;
 
 /// What is asked of the tables.
 #[derive(Clone, Copy, Debug, PartialEq, Eq)]
@@ -24,31 +26,6 @@ pub struct Request {
 }
 
 const MOST_ROWS: u64 = 1_000_000;
-
-/// The number, at most `most`, that digits spell with no needless zero in front.
-fn natural(most: u64, digits: &[u8]) -> Option<u64>
-    requires { 9 ≤ most }
-    ensures value { result ≡ natural_of most digits.now }
-    ensures small { IfSome result (λ n. n ≤ most) }
-{
-    match digits {
-        [] => return None,
-        [b'0', _, ..] => return None,
-        _ => {}
-    }
-    let mut value: u64 = 0;
-    for digit in digits {
-        if !digit.is_ascii_digit() {
-            return None;
-        }
-        let unit = u64::from(*digit - b'0');
-        if value > (most - unit) / 10 {
-            return None;
-        }
-        value = value * 10 + unit;
-    }
-    Some(value)
-}
 
 #[tactic(auto, unfolding(crate::specs::Request::seed_of))]
 fn seed_in(text: &str) -> Option<u64>

@@ -8,8 +8,6 @@ mod program;
 mod read;
 mod rules;
 mod setting;
-#[cfg(test)]
-mod tests;
 
 pub use hash::{hash_more, hash_start, hash_words};
 pub use part::{cells_of, entries_of, to_of};

@@ -3,8 +3,6 @@
 
 mod field;
 mod line;
-#[cfg(test)]
-mod tests;
 
 pub use field::{is_said, next_field};
 pub use line::{Cut, next_line};

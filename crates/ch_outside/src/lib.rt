@@ -15,6 +15,3 @@ pub use shelf::{Shelf, ShelfError};
 pub use sink::{Sink, SinkError};
 pub use std_sink::StdSink;
 pub use vec_sink::VecSink;
-
-#[cfg(test)]
-mod tests;

@@ -8,6 +8,3 @@ mod packet_view;
 pub use laws::{accepted_bytes_are_spelled, packets_are_spelled_once, spellings_are_accepted};
 pub use packet::{Packet, PacketKind, set_epoch, write_packet};
 pub use packet_view::{PacketError, PacketView, view};
-
-#[cfg(test)]
-mod tests;

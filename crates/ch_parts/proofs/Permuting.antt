@@ -15,7 +15,7 @@ use Rattle.ch_protocol.specs.Received.{all_rows}
 use Rattle.ch_protocol_laws.proofs.Names.{map-append, map-map}
 use Rattle.ch_tables.specs.TableValue.{TableValue}
 use Rattle.ch_words.specs.Packets.{all_sent, sent_row, sent_rows, table_of}
-use Rattle.ch_survival.specs.Asked.{asked_gate, asked_rows}
+use Rattle.ch_stands.specs.Asked.{asked_gate, asked_rows}
 use Rattle.ch_parts.specs.Scanned.{AreTables, asked_tables, part_of, parts_of, parts_of_side, parts_of_table, side_table, table_at, tuple_of}
 use Rattle.ch_parts.proofs.Listing.{flat_more}
 use Rattle.ch_parts.proofs.Reading.{table_is}

@@ -11,8 +11,7 @@ use Rattle.ch_packet.specs.declared.packet.PacketKind.TheVariants.{Row as RowKin
 use Rattle.ch_protocol.specs.Packets.{Part, Tuple}
 use Rattle.ch_protocol.specs.Machine.{Config, size, rows_in, rows_of, row_at, no_row, is_fin}
 use Rattle.ch_pred.specs.declared.bound.Bound.{Bound}
-use Rattle.ch_survival.specs.Given.{no_part, side_of}
-use Rattle.ch_stands.specs.Packets.{packet_for, sent}
+use Rattle.ch_ends.specs.Packets.{no_part, packet_for, sent, side_of}
 use Rattle.ch_stands.proofs.Lists.{at_map}
 use Rattle.ch_stands.proofs.Spelled.{rows_part, fin_row}
 use Rattle.ch_tables.specs.TableValue.{TableValue}

@@ -10,7 +10,7 @@ use Rattle.ch_protocol.specs.Sets.{numbers_from}
 use Rattle.ch_tables.specs.TableValue.{TableValue}
 use Rattle.ch_tables.specs.Texts.{texts_of}
 use Rattle.ch_words.specs.Packets.{sent_row}
-use Rattle.ch_survival.specs.Asked.{IsAsked, asked_gate}
+use Rattle.ch_stands.specs.Asked.{IsAsked, asked_gate}
 
 -- stands where a number is no table's
 abbrev pub no_table : TableValue

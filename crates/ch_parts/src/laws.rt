@@ -2,7 +2,7 @@ ghost use Rattle.std.specs.Prelude.{◌≡◌, ℕ, List, IsPermutation};
 ghost use Rattle.ch_pred.specs.declared.bound.Bound.{Bound};
 ghost use Rattle.ch_protocol.specs.Machine.{Config};
 ghost use Rattle.ch_protocol.specs.Received.{all_rows};
-ghost use Rattle.ch_survival.specs.Asked.{asked_rows};
+ghost use Rattle.ch_stands.specs.Asked.{asked_rows};
 ghost use Rattle.ch_tables.specs.TableValue.{TableValue};
 ghost use Rattle.ch_parts.specs.Scanned.{AreTables, asked_tables, parts_of};
 

@@ -1,9 +1,8 @@
 ghost use Rattle.std.specs.Prelude.{◌≡◌, ◌<◌, ◌≤◌, length, map, slice_index_or, IfOk};
 ghost use Rattle.ch_packet.specs.Packet.{IsPacket};
 ghost use Rattle.ch_protocol.specs.Machine.{Config};
-ghost use Rattle.ch_stands.specs.Packets.{bytes_of, packet_for, sent};
+ghost use Rattle.ch_ends.specs.Packets.{no_part, packet_bytes, packet_for, sent};
 ghost use Rattle.ch_stands.specs.Team.{sizes_of};
-ghost use Rattle.ch_survival.specs.Given.{no_part};
 ghost use Rattle.ch_parts.specs.Tidy.{IsTidy, source_part};
 
 use crate::row::{Head, Source, read_row, write_with};
@@ -98,7 +97,7 @@ impl<'a> Parts<'a> {
         requires worker { worker < length self.now }
         requires number { number ≤ length (slice_index_or self.now worker no_part).tuples }
         requires spelled { (c : Config) → c.parts ≡ self.now → IsPacket (packet_for c (sent pass worker number epoch)) }
-        ensures { (c : Config) → c.parts ≡ self.now → IfOk result (λ b. b ≡ bytes_of c (sent pass worker number epoch)) }
+        ensures { (c : Config) → c.parts ≡ self.now → IfOk result (λ b. b ≡ packet_bytes c (sent pass worker number epoch)) }
     {
         let source = self.sources[worker as usize];
         if number < source.rows {

@@ -3,8 +3,6 @@
 
 mod different;
 mod place;
-#[cfg(test)]
-mod tests;
 
 pub use different::{count_different, count_printed, different_places, printed_cols};
 pub use place::place_of;

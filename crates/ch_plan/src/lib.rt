@@ -8,8 +8,6 @@ mod laws;
 mod needs;
 mod places;
 mod planned;
-#[cfg(test)]
-mod tests;
 
 pub use error::PlanError;
 pub use kind::PlanKind;

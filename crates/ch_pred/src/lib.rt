@@ -14,6 +14,3 @@ pub use copies::copy_bound;
 pub use parts::{is_exact, part, weak};
 pub use pred::{Arg, BoundPred, Cmp, Col, Literal};
 pub use truth::{holds, parts_follow};
-
-#[cfg(test)]
-mod tests;

@@ -6,6 +6,3 @@ mod run;
 
 pub use answer::answer_text;
 pub use run::{counts_text, report_text};
-
-#[cfg(test)]
-mod tests;

@@ -6,8 +6,6 @@ mod filter;
 mod front;
 mod laws;
 mod operator;
-#[cfg(test)]
-mod tests;
 
 pub use filter::Filter;
 pub use front::Front;

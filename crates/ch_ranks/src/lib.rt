@@ -6,6 +6,3 @@ mod ranks;
 
 pub use builder::RanksBuilder;
 pub use ranks::{Ranks, ranks_are_a_bijection};
-
-#[cfg(test)]
-mod tests;

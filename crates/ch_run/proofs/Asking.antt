@@ -23,7 +23,8 @@ use Rattle.ch_fold_lines.proofs.WordFits.{sent_fit}
 use Rattle.ch_survival.specs.Asked.{answer_arrived, asked_gate, asked_rows}
 use Rattle.ch_verdicts.specs.Handed.{HasPlaces, IsPass, IsSlot}
 use Rattle.ch_verdicts.specs.declared.Slot.{Slot}
-use Rattle.ch_survival.specs.Given.{AreParts, IsPlanned, given_of, no_part}
+use Rattle.ch_ends.specs.Packets.{no_part}
+use Rattle.ch_survival.specs.Given.{AreParts, IsPlanned, given_of}
 use Rattle.ch_survival.proofs.Survives.{asked_starts, asked_survives}
 use Rattle.ch_ir.specs.Machine.{cleared}
 use Rattle.ch_ir.specs.declared.program.Program.{Program}

@@ -6,10 +6,9 @@ use Rattle.ch_ends.specs.Worker.{Progress, acked_of}
 use Rattle.ch_protocol.specs.Sender.{next_number, open_at}
 use Rattle.ch_protocol.specs.Machine.{Config, State, can_send, workers}
 use Rattle.ch_protocol.specs.Machine.Event.{Send, Resend}
-use Rattle.ch_stands.specs.Packets.{sent}
-use Rattle.ch_stands.specs.Packets as stands
+use Rattle.ch_ends.specs.Packets.{packet_bytes, sent}
 use Rattle.ch_stands.proofs.Progressing.{may_same, no_number, number_is, open_same}
-use Rattle.ch_trace_lines.specs.Trace.{bytes_of, row_bytes, sent_packet}
+use Rattle.ch_trace_lines.specs.Trace.{bytes_of, sent_packet}
 use Rattle.ch_engine.proofs.Sending.{stands_at}
 use Rattle.ch_engine.specs.declared.engine.Engine.{Engine}
 use Rattle.ch_run.specs.Runs.{Begun, IsRunOf}
@@ -23,14 +22,14 @@ none_again c s w k le = rw (le-ltb w (workers c) le) refl
 
 -- a worker's next number
 pub next_sent : (q : Begun) (x : Engine) (s : State) (w k : ℕ) (p : Progress) → IsRunOf q x s → w < length x.workers.items → p ≡ slice_index_or x.workers.items w p
-    → Some k ≡ next_number p.rows p.window p.next (acked_of p) → Some (row_bytes q.given.config (sent_packet s w k)) ≡ bytes_of q.given.config s (Send w)
+    → Some k ≡ next_number p.rows p.window p.next (acked_of p) → Some (packet_bytes q.given.config (sent_packet s w k)) ≡ bytes_of q.given.config s (Send w)
 next_sent q x s w k p r lt is e =
     let c = q.given.config in
     let at = stands_at q.given x s w p r.stands lt is in
     let n = number_is p.rows p.window p.next k (acked_of p) e in
     let may : can_send c s w ≡ true = sym (may_same p _ _ _ _ _ _ at) ∙ n.0 in
     let same : k ≡ s.next w = n.1 ∙ at.next_is in
-    rw (lt-ltb w (workers c) (omega (arith, lt, r.stands.workers_are.many)), may) (ap (λ m. Some (row_bytes c (sent_packet s w m))) same)
+    rw (lt-ltb w (workers c) (omega (arith, lt, r.stands.workers_are.many)), may) (ap (λ m. Some (packet_bytes c (sent_packet s w m))) same)
 
 pub none_sent : (q : Begun) (x : Engine) (s : State) (w : ℕ) (p : Progress) → IsRunOf q x s → w < length x.workers.items → p ≡ slice_index_or x.workers.items w p
     → ◌≡◌ {A = Option ℕ} None (next_number p.rows p.window p.next (acked_of p)) → None ≡ bytes_of q.given.config s (Send w)
@@ -42,7 +41,7 @@ none_sent q x s w p r lt is e =
 
 -- of its open numbers the one at a place
 pub open_sent : (q : Begun) (x : Engine) (s : State) (w k n : ℕ) (p : Progress) → IsRunOf q x s → w < length x.workers.items → p ≡ slice_index_or x.workers.items w p
-    → Some n ≡ open_at p.next (acked_of p) k → Some (row_bytes q.given.config (sent_packet s w n)) ≡ bytes_of q.given.config s (Resend w k)
+    → Some n ≡ open_at p.next (acked_of p) k → Some (packet_bytes q.given.config (sent_packet s w n)) ≡ bytes_of q.given.config s (Resend w k)
 open_sent q x s w k n p r lt is e =
     let c = q.given.config in
     let at = stands_at q.given x s w p r.stands lt is in
@@ -58,11 +57,11 @@ none_open q x s w k p r lt is e =
     rw (lt-ltb w (workers c) (omega (arith, lt, r.stands.workers_are.many)), ← none) refl
 
 -- the packet of a number, with the present pass and epoch
-pub spelled_now : (q : Begun) (x : Engine) (s : State) (w k epoch : ℕ) (b : List ℕ) → IsRunOf q x s → epoch ≡ x.switch.epoch → b ≡ stands.bytes_of q.given.config (sent x.pass w k epoch)
-    → Some b ≡ Some (row_bytes q.given.config (sent_packet s w k))
+pub spelled_now : (q : Begun) (x : Engine) (s : State) (w k epoch : ℕ) (b : List ℕ) → IsRunOf q x s → epoch ≡ x.switch.epoch → b ≡ packet_bytes q.given.config (sent x.pass w k epoch)
+    → Some b ≡ Some (packet_bytes q.given.config (sent_packet s w k))
 spelled_now q x s w k epoch b r e h =
     let c = q.given.config in
-    ap (λ bs. Some bs) (h ∙ (ap (λ p. stands.bytes_of c (sent p w k epoch)) r.stands.pass ∙ ap (λ n. stands.bytes_of c (sent s.pass w k n)) (e ∙ r.stands.switch.epoch_is)))
+    ap (λ bs. Some bs) (h ∙ (ap (λ p. packet_bytes c (sent p w k epoch)) r.stands.pass ∙ ap (λ n. packet_bytes c (sent s.pass w k n)) (e ∙ r.stands.switch.epoch_is)))
 
 get_map : {X Y : Type 0} (f : X → Y) (xs : List X) (i : ℕ) → slice_get (map f xs) i ≡ option_map f (slice_get xs i)
 get_map f [] i = refl

@@ -10,7 +10,7 @@ use Rattle.ch_protocol.specs.Sender.{acknowledged, is_done, open_numbers}
 use Rattle.ch_protocol.specs.Machine.{Config, State, size, stopped}
 use Rattle.ch_protocol.specs.Outcome.{open_flow, outcome, report}
 use Rattle.ch_stands.proofs.Progressing.{acked_same}
-use Rattle.ch_survival.specs.Given.{no_part}
+use Rattle.ch_ends.specs.Packets.{no_part}
 use Rattle.ch_engine.proofs.Sending.{rows_many, stands_at}
 use Rattle.ch_engine.specs.declared.engine.Engine.{Engine}
 use Rattle.ch_run.specs.Outcomes.{counts_seen, flow_seen, outcome_seen}

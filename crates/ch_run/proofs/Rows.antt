@@ -4,7 +4,7 @@ use Rattle.std.specs.Prelude.{slice_index_or}
 use Rattle.std.specs.List.{fold}
 use Rattle.ch_protocol.specs.Packets.{Part}
 use Rattle.ch_protocol.specs.Machine.{Config, total}
-use Rattle.ch_survival.specs.Given.{no_part}
+use Rattle.ch_ends.specs.Packets.{no_part}
 use Rattle.ch_stands.specs.Team.{sizes_of}
 use Rattle.ch_stands.proofs.Starting.{total_is}
 

@@ -4,7 +4,7 @@ use Rattle.std.specs.Prelude.{slice_index_or, Bool, Option, Some, None, OnOk, On
 use Rattle.ch_ends.specs.Worker.{Progress, acked_of}
 use Rattle.ch_protocol.specs.Sender.{next_number, open_numbers}
 use Rattle.ch_protocol.specs.Machine.{Config, State, Event, can_send, run, size, step}
-use Rattle.ch_survival.specs.Given.{no_part}
+use Rattle.ch_ends.specs.Packets.{no_part}
 use Rattle.ch_stands.proofs.Progressing.{acked_same, may_same, number_is, no_number}
 use Rattle.ch_engine.proofs.Sending.{many_parts, rows_many, stands_at}
 use Rattle.ch_engine.specs.declared.engine.Engine.{Engine}

@@ -4,7 +4,8 @@ ghost use Rattle.ch_protocol.specs.Machine.{State, step};
 ghost use Rattle.ch_protocol.specs.Machine.Event.{Resend, Send};
 ghost use Rattle.ch_schedule.specs.Bad.{is_forged};
 ghost use Rattle.ch_schedule.specs.Event.{event_of};
-ghost use Rattle.ch_trace_lines.specs.Trace.{bytes_of, noted_at, row_bytes, sent_packet};
+ghost use Rattle.ch_ends.specs.Packets.{packet_bytes};
+ghost use Rattle.ch_trace_lines.specs.Trace.{bytes_of, noted_at, sent_packet};
 ghost use Rattle.ch_engine.specs.Stands.{HasEpoch, HasNumber};
 ghost use Rattle.ch_run.specs.Making.{note_of};
 ghost use Rattle.ch_run.specs.Runs.{Begun, IsGoing, IsRunOf, IsRunning, LeadsTo};
@@ -126,7 +127,7 @@ fn spelled(engine: &Engine, worker: u32, number: u32) -> Result<Option<Bytes>, M
     requires running { IsRunning engine.now }
     requires worker { worker < length engine.now.workers.items }
     requires number { HasNumber engine.now worker number }
-    ensures { (q : Begun) (s : State) → IsRunOf q engine.now s → IfOk result (λ b. b ≡ Some (row_bytes q.given.config (sent_packet s worker number))) }
+    ensures { (q : Begun) (s : State) → IsRunOf q engine.now s → IfOk result (λ b. b ≡ Some (packet_bytes q.given.config (sent_packet s worker number))) }
 {
     let mut words = Vec::new(engine.alloc);
     let bytes = engine.parts.packet(

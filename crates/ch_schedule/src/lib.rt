@@ -6,8 +6,6 @@ mod laws;
 mod line;
 mod read;
 mod step;
-#[cfg(test)]
-mod tests;
 
 pub use field::{natural, read_bytes};
 pub use laws::{every_event_is_a_step, read_schedules_are_within_limits};

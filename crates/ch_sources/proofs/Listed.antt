@@ -7,7 +7,7 @@ use Rattle.std.specs.List.{flat_map}
 use Rattle.ch_cells.specs.declared.Cell.{Cell}
 use Rattle.ch_pred.specs.declared.bound.Bound.{Bound}
 use Rattle.ch_protocol.specs.Sets.{numbers_from}
-use Rattle.ch_stands.proofs.Lists.{map_push}
+use Rattle.ch_parts.proofs.Lists.{map_push}
 use Rattle.ch_tables.specs.TableValue.{TableValue}
 use Rattle.ch_parts.specs.Scanned.{part_of, parts_of_side, side_table, table_at}
 use Rattle.ch_parts.specs.Tidy.{IsSource, source_part}

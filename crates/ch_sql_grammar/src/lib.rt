@@ -16,6 +16,3 @@ pub use limits::{MAX_DEPTH, MAX_LITERALS};
 pub use query::{Agg, ColumnRef, Having, Item, Pred, Query, Side, SkyDim, Source, Tail};
 pub use tail::{TailPlace, TailTaker};
 pub use terminal::{Mark, Terminal, is_mark, name_of, terminals_of};
-
-#[cfg(test)]
-mod tests;

@@ -12,6 +12,3 @@ pub use error::LexError;
 pub use laws::{lex_refusals_are_exact, lexed_or_refused, lexed_tokens_are_tokens};
 pub use scanner::{MAX_QUERY_BYTES, lex};
 pub use token::{Symbol, Token};
-
-#[cfg(test)]
-mod tests;

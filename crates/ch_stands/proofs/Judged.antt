@@ -13,7 +13,7 @@ use Rattle.ch_verdicts.specs.Agrees.{Agrees, ArePassed, IsTaken}
 use Rattle.ch_verdicts.specs.Handed.{IsPass, says, handed, registers_by}
 use Rattle.ch_switch.specs.Switching.{Switching, row_of, is_row, is_pruned}
 use Rattle.ch_survival.specs.Given.{Given, IsPlanned, Fits}
-use Rattle.ch_stands.specs.Packets.{packet_for}
+use Rattle.ch_ends.specs.Packets.{packet_for}
 use Rattle.ch_stands.specs.Parties.{SwitchStands, begun_in, history}
 use Rattle.ch_stands.proofs.Spelled.{row_fits, side_is, known_pass}
 

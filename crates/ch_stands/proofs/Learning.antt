@@ -12,7 +12,7 @@ use Rattle.ch_protocol.specs.Sender.{is_current, acknowledge, is_done}
 use Rattle.ch_protocol.specs.Machine.{Config, State, size, workers, learn}
 use Rattle.ch_protocol.specs.Invariant.{IsSound, IsOnBack}
 use Rattle.ch_protocol.proofs.Tests.{set_at-same, set_at-other, least-le, least-below}
-use Rattle.ch_stands.specs.Packets.{ack_for}
+use Rattle.ch_ends.specs.Packets.{ack_for}
 use Rattle.ch_stands.specs.Parties.{WorkersStand, first_undone}
 use Rattle.ch_stands.specs.Team.{is_over}
 use Rattle.ch_stands.proofs.Progressing.{workers_set, acked_same}

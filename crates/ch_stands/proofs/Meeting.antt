@@ -14,7 +14,7 @@ use Rattle.ch_protocol.specs.Forwarder.{fate_of, is_accepted, expect_after}
 use Rattle.ch_verdicts.specs.Handed.{says, leaves, handed, registers_by}
 use Rattle.ch_switch.specs.Switching.{Switching, Expects, Stays, row_of, is_row, is_pruned, is_judged, runs, expected_at, registers_after}
 use Rattle.ch_survival.specs.Given.{Given, IsPlanned}
-use Rattle.ch_stands.specs.Packets.{packet_for}
+use Rattle.ch_ends.specs.Packets.{packet_for}
 use Rattle.ch_stands.specs.Parties.{SwitchStands, begun_in, history}
 use Rattle.ch_stands.proofs.Spelled.{side_is, known_pass}
 use Rattle.ch_stands.proofs.Judged.{judged}

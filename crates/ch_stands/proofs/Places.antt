@@ -13,7 +13,7 @@ use Rattle.ch_protocol.specs.Machine.{Config, State, passes}
 use Rattle.ch_protocol.specs.Invariant.{IsSound, IsKnown, IsOnBack}
 use Rattle.ch_protocol.proofs.Lists.{In-get}
 use Rattle.ch_survival.specs.Given.{Given, IsPlanned}
-use Rattle.ch_stands.specs.Packets.{packet_for, ack_for, bytes_of, ack_bytes, origin_code}
+use Rattle.ch_ends.specs.Packets.{packet_for, ack_for, packet_bytes, ack_bytes, origin_code}
 use Rattle.ch_stands.proofs.Lists.{at_place}
 use Rattle.ch_stands.proofs.Spelled.{spelled, known_pass}
 
@@ -26,9 +26,9 @@ pub record SentAt (g : Given) (s : State) (link : List Packet) (i : ℕ) (bytes 
   pub bytes_is : bytes ≡ spelling (packet_for g.config m)
 
 pub up_at : (g : Given) (s : State) (held : List (List ℕ)) (i : ℕ) (bytes : List ℕ) → IsPlanned g → IsSound g.config s → s.epoch < 2 ^ 32
-    → held ≡ map (bytes_of g.config) s.up → i < length held → bytes ≡ slice_index_or held i bytes → SentAt g s s.up i bytes
+    → held ≡ map (packet_bytes g.config) s.up → i < length held → bytes ≡ slice_index_or held i bytes → SentAt g s s.up i bytes
 up_at g s held i bytes p sound small h lt e =
-    let a = at_place (bytes_of g.config) s.up i (subst (λ (l : List (List ℕ)). i < length l) h lt) in
+    let a = at_place (packet_bytes g.config) s.up i (subst (λ (l : List (List ℕ)). i < length l) h lt) in
     let on = sound.up a.item (In-get a.item s.up i a.is) in
     record {
       m = a.item;
@@ -39,9 +39,9 @@ up_at g s held i bytes p sound small h lt e =
     }
 
 pub down_at : (g : Given) (s : State) (held : List (List ℕ)) (i : ℕ) (bytes : List ℕ) → IsPlanned g → IsSound g.config s → s.epoch < 2 ^ 32
-    → held ≡ map (bytes_of g.config) s.down → i < length held → bytes ≡ slice_index_or held i bytes → SentAt g s s.down i bytes
+    → held ≡ map (packet_bytes g.config) s.down → i < length held → bytes ≡ slice_index_or held i bytes → SentAt g s s.down i bytes
 down_at g s held i bytes p sound small h lt e =
-    let a = at_place (bytes_of g.config) s.down i (subst (λ (l : List (List ℕ)). i < length l) h lt) in
+    let a = at_place (packet_bytes g.config) s.down i (subst (λ (l : List (List ℕ)). i < length l) h lt) in
     let on = sound.down a.item (In-get a.item s.down i a.is) in
     record {
       m = a.item;
@@ -53,11 +53,11 @@ down_at g s held i bytes p sound small h lt e =
 
 -- another loan of the bytes at the place has the same packet
 pub same_at : (g : Given) (s : State) (link : List Packet) (held : List (List ℕ)) (i : ℕ) (bytes lent : List ℕ) (u : SentAt g s link i bytes)
-    → held ≡ map (bytes_of g.config) link → i < length held → lent ≡ slice_index_or held i lent → lent ≡ spelling (packet_for g.config u.m)
+    → held ≡ map (packet_bytes g.config) link → i < length held → lent ≡ slice_index_or held i lent → lent ≡ spelling (packet_for g.config u.m)
 same_at g s link held i bytes lent u h lt e =
-    let a = at_place (bytes_of g.config) link i (subst (λ (l : List (List ℕ)). i < length l) h lt) in
+    let a = at_place (packet_bytes g.config) link i (subst (λ (l : List (List ℕ)). i < length l) h lt) in
     let same : a.item ≡ u.m = cc (sym a.is ∙ u.is) in
-    e ∙ ap (λ (l : List (List ℕ)). slice_index_or l i lent) h ∙ a.shown lent ∙ ap (bytes_of g.config) same
+    e ∙ ap (λ (l : List (List ℕ)). slice_index_or l i lent) h ∙ a.shown lent ∙ ap (packet_bytes g.config) same
 
 -- each packet that these bytes spell is the one at the place
 pub only_at : (g : Given) (s : State) (link : List Packet) (i : ℕ) (bytes : List ℕ) (u : SentAt g s link i bytes) (b : BytePacket)

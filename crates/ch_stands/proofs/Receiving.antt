@@ -11,7 +11,7 @@ use Rattle.ch_protocol.specs.Machine.{Config, State, size, workers, passes, is_f
 use Rattle.ch_protocol.specs.Invariant.{IsSound, IsKnown}
 use Rattle.ch_links.specs.Spelled.{MayTake, Collects, name_in, is_row_of}
 use Rattle.ch_survival.specs.Given.{Given}
-use Rattle.ch_stands.specs.Packets.{packet_for}
+use Rattle.ch_ends.specs.Packets.{packet_for}
 use Rattle.ch_stands.specs.Parties.{MasterStands}
 use Rattle.ch_stands.proofs.Spelled.{known_pass, sent_kind}
 

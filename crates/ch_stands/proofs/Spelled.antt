@@ -16,8 +16,8 @@ use Rattle.ch_protocol.specs.Invariant.{IsKnown}
 use Rattle.ch_verdicts.specs.declared.Slot.{Slot}
 use Rattle.ch_verdicts.specs.Handed.{IsPass, IsSlot, HasPlaces}
 use Rattle.ch_switch.specs.Switching.{MayMeet, Switching, row_of, is_row}
-use Rattle.ch_survival.specs.Given.{Given, IsPlanned, Fits, no_part, side_of}
-use Rattle.ch_stands.specs.Packets.{packet_for, ack_for}
+use Rattle.ch_survival.specs.Given.{Given, IsPlanned, Fits}
+use Rattle.ch_ends.specs.Packets.{ack_for, no_part, packet_for, side_of}
 use Rattle.ch_links.specs.Spelled.{is_row_of}
 use Rattle.ch_stands.proofs.Lists.{map_at}
 

@@ -1,5 +1,5 @@
 -- What a run is started with, and what it needs of that.
-use Rattle.std.specs.Prelude.{◌≡◌, ◌≤◌, ◌<◌, ◌+◌, ◌^◌, ℕ, Bool, true, [], length, Option, None, slice_index_or, All, FitsSigned}
+use Rattle.std.specs.Prelude.{◌≡◌, ◌≤◌, ◌<◌, ◌+◌, ◌^◌, ℕ, Bool, true, length, Option, None, All, FitsSigned}
 use Rattle.std.specs.Int.{w64}
 use Rattle.ch_cover.specs.Rows.{Row}
 use Rattle.ch_ir.specs.declared.program.Program.{Program}
@@ -12,7 +12,7 @@ use Rattle.ch_words.specs.Rows.{Gate}
 use Rattle.ch_prune.specs.Sent.{is_sent}
 use Rattle.ch_plan.specs.Kinds.{kind_program}
 use Rattle.ch_plan.specs.declared.kind.PlanKind.{PlanKind}
-use Rattle.ch_protocol.specs.Packets.{Part}
+use Rattle.ch_ends.specs.Packets.{side_of}
 use Rattle.ch_protocol.specs.Machine.{Config, seen, size, workers}
 
 -- the protocol's configuration, the program with the place of its selector, the registers that the run began with, and
@@ -23,12 +23,6 @@ pub record Given : Type 0 where
   pub slot : Option Slot
   pub begun : Registers
   pub is_row : Row → Bool
-
-abbrev pub no_part : Part
-no_part = record { side = 0; tuples = [] }
-
-abbrev pub side_of : Config → ℕ → ℕ
-side_of c w = (slice_index_or c.parts w no_part).side
 
 -- a row with its pass that the program has places for, and that passes the test
 pub record Fits (g : Given) (x : ℕ × Row) : Type 0 where

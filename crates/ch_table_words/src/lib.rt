@@ -16,10 +16,6 @@ use ch_ranks::Ranks;
 use ch_tables::Table;
 pub use dictionary::{add_texts, dictionaries_have_their_texts};
 pub use side_row::{SideRow, own_part, row_bit};
-
-#[cfg(test)]
-mod tests;
-
 use std::alloc::Global;
 
 /// The rank of each different text of a table, by its place: one look-up for each text, and none for a row.

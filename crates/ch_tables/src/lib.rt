@@ -9,8 +9,6 @@ mod header;
 mod read;
 mod records;
 mod table;
-#[cfg(test)]
-mod tests;
 mod text_column;
 mod texts;
 

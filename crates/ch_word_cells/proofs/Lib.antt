@@ -1,3 +1,2 @@
-mod Pairs
 pub mod Sent
 mod Texts

@@ -27,6 +27,3 @@ pub fn sent_words_fit()
         → (row inner : List Cell) → In row (table_of tables 0) → In inner (table_of tables 1)
         → WordsFit texts b (both (words_seen b (packed texts b 0 row)) (words_seen b (packed texts b 1 inner))) }
 {}
-
-#[cfg(test)]
-mod tests;

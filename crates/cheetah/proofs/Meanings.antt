@@ -11,11 +11,11 @@ use Rattle.ch_plan.specs.declared.error.PlanError.{PlanError}
 use Rattle.ch_protocol.specs.Outcome as run
 use Rattle.cheetah_inputs.proofs.Meanings.{contents_all, contents_one, contents_some}
 use Rattle.cheetah_inputs.specs.Inputs.{Given, OfContents, names_of}
+use Rattle.cheetah_inputs.specs.Limits.{limit_exceeded, plan_line}
 use Rattle.cheetah_words.specs.Words.{Asking, NoWords, Request, Wish, WrongTables, WrongWords}
 use Rattle.cheetah_run.specs.Running.{run_outcome}
 use Rattle.cheetah_run.specs.Saying.{said_of}
 use Rattle.cheetah.specs.Answering.{Answers, outcome_of, outcome_planned, within_limits}
-use Rattle.cheetah.specs.Planning.{limit_exceeded, plan_line}
 use Rattle.cheetah.specs.Result.{command_for}
 
 -- what holds of each text, of each run and of each refusal holds of what a request comes to

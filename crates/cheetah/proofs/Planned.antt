@@ -1,50 +1,22 @@
 -- A query that is planned, and what it comes to.
-use Rattle.std.proofs.Common.{◌≡◌, ◌≢◌, ◌∙◌, ap, sym, refl, ℕ, ◌+◌, ◌*◌, Bool, true, false, List, Option, Some, None, Result, Ok, Err}
+use Rattle.std.proofs.Common.{◌≡◌, ◌≢◌, ◌∙◌, ap, sym, ℕ, Bool, true, false, List, Option, Some, None, Result, Ok, Err}
 use Rattle.std.specs.Result.{IfErr, IfOk}
 use Rattle.ch_asm.specs.Text.{program_text}
 use Rattle.ch_bind.specs.Binding.{plain_bound}
 use Rattle.ch_command.specs.Command.{answered, refused}
 use Rattle.ch_command.specs.declared.outcome.Ending.TheVariants.{Rejected}
 use Rattle.ch_command.specs.declared.outcome.Outcome.{Outcome}
-use Rattle.ch_ir.specs.declared.profile.Profile.{Profile}
 use Rattle.ch_ir.specs.declared.program.Program.{Program}
 use Rattle.ch_plan.specs.Kinds.{IsPlanOf, kind_program}
-use Rattle.ch_plan.specs.Needs.{cells_for, greatest_length, keys_of, need_of, plan_refusal, stages_of}
+use Rattle.ch_plan.specs.Needs.{need_of, plan_refusal}
 use Rattle.ch_plan.specs.declared.error.PlanError.{PlanError}
 use Rattle.ch_plan.specs.declared.error.PlanError.TheVariants.{Memory}
 use Rattle.ch_plan.specs.declared.kind.PlanKind.{PlanKind}
-use Rattle.ch_pred.specs.declared.bound.Bound.{Bound}
-use Rattle.ch_pred.specs.declared.bound.Shape.{Shape}
-use Rattle.ch_pred.specs.declared.bound.Shape.TheVariants as shape
-use Rattle.ch_prune.specs.declared.operator.Need.{Need}
+use Rattle.cheetah_inputs.proofs.Limits.{limit_found, same_limits}
 use Rattle.cheetah_inputs.specs.Inputs.{given_of}
-use Rattle.cheetah_inputs.specs.Question.{unfiltered}
+use Rattle.cheetah_inputs.specs.Limits.{limit_exceeded, plan_line}
 use Rattle.cheetah_inputs.specs.declared.inputs.Inputs.{Inputs}
 use Rattle.cheetah.specs.Answering.{Answers, outcome_planned, within_limits}
-use Rattle.cheetah.specs.Planning.{limit_exceeded, plan_line}
-
--- a need knows nothing of the filter
-
-same_keys : (b : Bound) (s : Shape) → keys_of (unfiltered (plain_bound b)) s ≡ keys_of b s
-same_keys b shape.Filter = refl
-same_keys b shape.Distinct = refl
-same_keys b (shape.Top by descending limit) = refl
-same_keys b (shape.Group keys max value) = refl
-same_keys b (shape.Having keys sum above) = refl
-same_keys b (shape.Join left right) = refl
-same_keys b (shape.Skyline dims) = refl
-same_keys b (shape.Semi key inner) = refl
-
-abbrev need_with : Bound → Profile → ℕ → Need
-need_with b profile n = record {
-  width = greatest_length b.carried + 3;
-  cells = cells_for profile n b.shape;
-  words = greatest_length b.carried + 3 + 32 + stages_of profile b.shape * (n + 32);
-  stages = 2 + stages_of profile b.shape;
-}
-
-pub same_limits : (b : Bound) (profile : Profile) → limit_exceeded (plain_bound b) profile ≡ plan_refusal (need_of b profile) profile
-same_limits b profile = ap (λ n. plan_refusal (need_with b profile n) profile) (same_keys b b.shape)
 
 module _ {E : Type 0} (inputs : Inputs) where
   -- the program of a plan is the one that query and profile say
@@ -66,13 +38,6 @@ pub refusal_comes : {P : Type 0} (inputs : Inputs) (plan : Bool) (error : PlanEr
     → ((e : PlanError) → plan_refusal (need_of inputs.bound inputs.profile) inputs.profile ≡ Some e → result ≡ Err e)
     → (plan_refusal (need_of inputs.bound inputs.profile) inputs.profile ≡ None → IfErr result (λ e. e ≡ Memory))
     → Answers plan (given_of inputs) (refused Rejected said)
-refusal_comes {P} inputs plan error result said is known line refused_by memory_by = by (plan_refusal (need_of inputs.bound inputs.profile) inputs.profile) refl
-  where
-    same_error : (e f : PlanError) (x y : Result P PlanError) → x ≡ Err e → y ≡ Err f → x ≡ y → e ≡ f
-    same_error e f x y p q h = cc
-
-    by : (o : Option PlanError) → plan_refusal (need_of inputs.bound inputs.profile) inputs.profile ≡ o → Answers plan (given_of inputs) (refused Rejected said)
-    by None none = absurd (known (rw is at (memory_by none)))
-    by (Some e) some =
-        let same : error ≡ e = same_error error e result result is (refused_by e some) refl in
-        ap (refused Rejected) (line ∙ ap plan_line same) ∙ sym (ap (λ (o : Option PlanError). within_limits o (outcome_planned plan (given_of inputs))) (same_limits inputs.bound inputs.profile ∙ some))
+refusal_comes inputs plan error result said is known line refused_by memory_by =
+    let found : limit_exceeded (plain_bound inputs.bound) inputs.profile ≡ Some error = limit_found inputs.bound inputs.profile error result is known refused_by memory_by in
+    ap (refused Rejected) line ∙ sym (ap (λ (o : Option PlanError). within_limits o (outcome_planned plan (given_of inputs))) found)

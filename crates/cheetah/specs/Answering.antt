@@ -6,8 +6,9 @@ use Rattle.ch_command.specs.declared.outcome.Ending.TheVariants.{Rejected}
 use Rattle.ch_command.specs.declared.outcome.Outcome.{Outcome}
 use Rattle.ch_plan.specs.declared.error.PlanError.{PlanError}
 use Rattle.cheetah_inputs.specs.Inputs.{Given}
+use Rattle.cheetah_inputs.specs.Limits.{limit_exceeded, plan_line}
 use Rattle.cheetah_run.specs.Saying.{said_by_run}
-use Rattle.cheetah.specs.Planning.{limit_exceeded, plan_line, program_planned}
+use Rattle.cheetah.specs.Planning.{program_planned}
 
 -- the text of the plan's program, where that is asked for; else what the run of the schedule writes
 abbrev pub outcome_planned : Bool → Given → Outcome

@@ -5,10 +5,10 @@ use Rattle.ch_command.specs.Reading.{read_all}
 use Rattle.ch_outside.specs.Shelf.{Files}
 use Rattle.ch_protocol.specs.Machine.{stopped}
 use Rattle.cheetah_inputs.specs.Inputs.{AreInputs, Given, given_of, names_of}
+use Rattle.cheetah_inputs.specs.Limits.{limit_exceeded}
 use Rattle.cheetah_inputs.specs.declared.inputs.Inputs.{Inputs}
 use Rattle.cheetah_run.specs.Running.{config_of, last_state}
 use Rattle.cheetah_words.specs.Words.{Asking, Request, wish_of}
-use Rattle.cheetah.specs.Planning.{limit_exceeded}
 
 -- each worker is confirmed in the last pass
 abbrev pub IsConfirmed : Given → Type 0

@@ -4,11 +4,11 @@ ghost use Rattle.cheetah_inputs.specs.Inputs.{given_of};
 ghost use Rattle.cheetah_run.specs.Asking.{AreAsked};
 ghost use Rattle.cheetah.specs.Answering.{Answers, outcome_planned};
 
-use crate::planning::{plan_line, print_program};
+use crate::planning::print_program;
 use ch_cells::Memory;
 use ch_command::{Ending, Outcome};
 use ch_plan::{Planned, plan};
-use cheetah_inputs::Inputs;
+use cheetah_inputs::{Inputs, plan_line};
 use cheetah_run::run_query;
 use std::alloc::Global;
 

@@ -5,11 +5,11 @@ ghost use Rattle.ch_command.specs.declared.outcome.Ending.TheVariants as ending;
 ghost use Rattle.ch_command.specs.declared.outcome.Outcome.{Outcome};
 ghost use Rattle.ch_outside.specs.Shelf.{Files};
 ghost use Rattle.cheetah_inputs.specs.Inputs.{AreInputs, given_of};
+ghost use Rattle.cheetah_inputs.specs.Limits.{limit_exceeded};
 ghost use Rattle.cheetah_inputs.specs.declared.inputs.Inputs.{Inputs};
 ghost use Rattle.cheetah_words.specs.Words.{Request};
 ghost use Rattle.cheetah.specs.Answering.{outcome_of};
 ghost use Rattle.cheetah.specs.Complete.{IsAnswerable};
-ghost use Rattle.cheetah.specs.Planning.{limit_exceeded};
 ghost use Rattle.cheetah.specs.Result.{command_of};
 
 /// Whatever the words are and whatever the files hold, the command comes to one thing; only the text with which `clap`

@@ -11,6 +11,3 @@ pub use laws::{
     accepted_requests_are_answered, drained_requests_are_never_open, words_are_commands,
 };
 pub use top::cheetah;
-
-#[cfg(test)]
-mod tests;

@@ -8,6 +8,3 @@ mod words;
 
 pub use laws::words_are_commands;
 pub use top::cheetah_check;
-
-#[cfg(test)]
-mod tests;

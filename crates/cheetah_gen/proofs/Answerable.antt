@@ -11,7 +11,7 @@ use Rattle.cheetah.proofs.Completed.{answerable_is_done, come_to_answer}
 use Rattle.cheetah.specs.Answering as answering
 use Rattle.cheetah.specs.Complete.{IsAnswerable}
 use Rattle.cheetah_inputs.specs.Inputs.{Given, given_of}
-use Rattle.cheetah_run.specs.Saying.{said_by_run}
+use Rattle.cheetah.specs.Saying.{said_by_run}
 use Rattle.cheetah_gen.proofs.Given.{are_inputs, inputs_by, same_given, within_limits}
 use Rattle.cheetah_gen.specs.Given.{given_by}
 use Rattle.cheetah_gen.specs.Result.{inner_command}

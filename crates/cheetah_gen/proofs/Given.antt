@@ -31,9 +31,9 @@ use Rattle.ch_sql.proofs.Readings.{spelled_parsed}
 use Rattle.ch_tables.specs.Table.{table_of}
 use Rattle.ch_tables.specs.TableValue.{TableValue}
 use Rattle.ch_tables.specs.declared.TableError.{TableError}
-use Rattle.cheetah.proofs.Planned.{same_limits}
-use Rattle.cheetah.specs.Planning.{limit_exceeded}
+use Rattle.cheetah_inputs.proofs.Limits.{same_limits}
 use Rattle.cheetah_inputs.specs.Inputs.{AreInputs, given_of, tables_or_line}
+use Rattle.cheetah_inputs.specs.Limits.{limit_exceeded}
 use Rattle.cheetah_inputs.specs.Parts.{TableText, named_texts, tables_in}
 use Rattle.cheetah_inputs.specs.Question.{IsQuestion}
 use Rattle.cheetah_inputs.specs.Tables.{and_more, room, room_after, tables_within, with_more}

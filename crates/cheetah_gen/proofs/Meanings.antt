@@ -20,7 +20,7 @@ use Rattle.ch_generated_laws.proofs.Ranges.{in_range}
 use Rattle.ch_generated_laws.specs.Tables.{IsInRange}
 use Rattle.ch_outside.specs.Shelf.{Files}
 use Rattle.cheetah.proofs.Meanings as cheetah
-use Rattle.cheetah_run.specs.Saying.{said_by_run}
+use Rattle.cheetah.specs.Saying.{said_by_run}
 use Rattle.cheetah_words.specs.Words.{wish_of}
 use Rattle.cheetah_gen.proofs.Answerable.{inner_done, inner_said}
 use Rattle.cheetah_gen.specs.Given.{given_by}

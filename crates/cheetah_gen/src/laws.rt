@@ -11,7 +11,7 @@ ghost use Rattle.cheetah.specs.Complete.{IsAnswerable};
 ghost use Rattle.cheetah_gen.specs.Given.{given_by};
 ghost use Rattle.cheetah_gen.specs.Result.{command_of, sum_of};
 ghost use Rattle.cheetah_gen_words.specs.Files.{files_told};
-ghost use Rattle.cheetah_run.specs.Saying.{said_by_run};
+ghost use Rattle.cheetah.specs.Saying.{said_by_run};
 
 /// `cheetah` must answer each query over the generated files: its words are taken, every file is there and small enough,
 /// every text is accepted, every need is within the default profile, and the schedule ends in drain.

@@ -8,6 +8,3 @@ mod verdict;
 
 pub use laws::{generated_requests_are_answerable, requests_are_summed_up, words_are_commands};
 pub use top::cheetah_gen;
-
-#[cfg(test)]
-mod tests;

@@ -7,6 +7,3 @@ mod summing;
 
 pub use laws::{generated_files_are_read, generated_words_are_taken};
 pub use summing::summary;
-
-#[cfg(test)]
-mod tests;

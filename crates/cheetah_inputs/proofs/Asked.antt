@@ -13,7 +13,7 @@ use Rattle.ch_asked.proofs.Plannable.{bound_plannable}
 use Rattle.ch_asked.proofs.Typed.{read_typed}
 use Rattle.ch_lines.specs.Lines.{lines_of}
 use Rattle.ch_lists.specs.Members.{Each}
-use Rattle.ch_parts.specs.Scanned.{AreTables}
+use Rattle.ch_asked.specs.Scanned.{AreTables}
 use Rattle.ch_plan.specs.Kinds.{IsPlannable}
 use Rattle.ch_ranks.specs.Dictionary.{Ascends}
 use Rattle.ch_schedule.specs.Bad.{is_forged}

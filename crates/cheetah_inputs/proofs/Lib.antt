@@ -3,6 +3,7 @@ pub mod Asking
 pub mod Chains
 pub mod Gathered
 pub mod Grouping
+pub mod Limits
 pub mod Meanings
 pub mod Naming
 pub mod Queues

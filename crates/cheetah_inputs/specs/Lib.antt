@@ -1,4 +1,5 @@
 pub mod Inputs
+pub mod Limits
 pub mod Messages
 pub mod Parts
 pub mod Question

@@ -2,7 +2,7 @@ ghost use Rattle.std.specs.Prelude.{◌≡◌, ◌≤◌, ◌^◌, ℕ, All, Lis
 ghost use Rattle.std.specs.List.{list_all};
 ghost use Rattle.ch_asked.specs.Suits.{AreSmall};
 ghost use Rattle.ch_asked.specs.Texts.{asked_texts, dictionary_of};
-ghost use Rattle.ch_parts.specs.Scanned.{AreTables};
+ghost use Rattle.ch_asked.specs.Scanned.{AreTables};
 ghost use Rattle.ch_plan.specs.Kinds.{IsPlannable};
 ghost use Rattle.ch_schedule.specs.Bad.{is_forged};
 ghost use Rattle.cheetah_words.specs.Words.{Request};

@@ -13,6 +13,6 @@ mod tables;
 
 pub use inputs::{Inputs, Shared, names_in, read_inputs, read_shared};
 pub use laws::{read_inputs_can_be_asked, read_schedules_can_be_run, read_tables_are_small};
-pub use messages::{bind_line, schedule_line, sum_line};
+pub use messages::{bind_line, plan_line, schedule_line, sum_line};
 pub use question::read_question;
 pub use refusal::Refusal;

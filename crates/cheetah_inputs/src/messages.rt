@@ -1,8 +1,11 @@
 ghost use Rattle.std.specs.Prelude.{◌≡◌, ◌≢◌, ◌++◌, IfOk, OnOk, string_bytes};
+ghost use Rattle.cheetah_inputs.specs.Limits.{plan_line};
 ghost use Rattle.cheetah_inputs.specs.Messages.{bind_line, schedule_line, sum_line, sum_tail, why_text};
 
 use ch_bind::{BindError, SumError};
 use ch_cells::{Bytes, Memory};
+use ch_messages::limit_text;
+use ch_plan::PlanError;
 use ch_schedule::{ScheduleError, ScheduleWhy};
 use std::alloc::Global;
 
@@ -93,4 +96,19 @@ pub fn sum_line(alloc: Global, name: &[u8], error: SumError) -> Result<Bytes, Me
     said.extend_from_slice(name)?;
     said.extend_from_slice(tail.as_bytes())?;
     Ok(Bytes::from_vec(said))
+}
+
+/// The limit that a plan exceeds. Want of memory has no line.
+pub fn plan_line(alloc: Global, error: PlanError) -> Result<Bytes, Memory>
+    ensures line { IfOk result (λ said. said ≡ plan_line error) }
+    ensures known { OnOk result (error ≢ PlanError.Memory) }
+{
+    match error {
+        PlanError::Limit { which, need, have } => {
+            let which = limit_text(which);
+            let said = format!(in alloc; "plan refused: {which} need {need} have {have}\n")?;
+            Ok(Bytes::from_vec(said.into_bytes()))
+        }
+        PlanError::Memory => Err(Memory),
+    }
 }

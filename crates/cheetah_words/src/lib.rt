@@ -7,6 +7,3 @@ mod words;
 
 pub use table_word::{TableWord, tables_in};
 pub use words::{Asked, asked_in};
-
-#[cfg(test)]
-mod tests;

@@ -3,8 +3,6 @@
 
 mod emitting;
 mod sizes;
-#[cfg(test)]
-mod tests;
 
 pub use emitting::{filter_arrays, make_filters};
 pub use sizes::Sizes;

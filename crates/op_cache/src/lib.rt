@@ -4,8 +4,6 @@
 
 mod columns;
 mod operands;
-#[cfg(test)]
-mod tests;
 
 pub use columns::{Columns, emit_columns, gate_after};
 pub use operands::{put_each, words_from, words_of};

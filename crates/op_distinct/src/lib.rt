@@ -4,8 +4,6 @@
 mod distinct;
 mod emit;
 mod laws;
-#[cfg(test)]
-mod tests;
 
 pub use distinct::Distinct;
 pub use laws::worked_verdicts;

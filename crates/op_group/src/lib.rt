@@ -5,8 +5,6 @@ mod columns;
 mod emit;
 mod group;
 mod laws;
-#[cfg(test)]
-mod tests;
 
 pub use group::Group;
 pub use laws::worked_verdicts;

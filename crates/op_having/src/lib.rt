@@ -5,8 +5,6 @@ mod emitting;
 mod having;
 mod laws;
 mod sizes;
-#[cfg(test)]
-mod tests;
 
 pub use having::HavingOp;
 pub use laws::worked;

@@ -4,8 +4,6 @@
 mod emitting;
 mod join;
 mod laws;
-#[cfg(test)]
-mod tests;
 
 pub use join::JoinOp;
 pub use laws::worked;

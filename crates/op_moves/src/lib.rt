@@ -4,8 +4,6 @@
 
 mod builder;
 mod laws;
-#[cfg(test)]
-mod tests;
 
 pub use builder::{Builder, always, arrays_alike};
 pub use laws::{in_order, runs, steps};

@@ -6,8 +6,6 @@ mod emitting;
 mod laws;
 mod semi;
 mod sizes;
-#[cfg(test)]
-mod tests;
 
 pub use laws::worked;
 pub use semi::Semi;

@@ -7,8 +7,6 @@ mod place;
 mod program;
 mod sizes;
 mod skyline;
-#[cfg(test)]
-mod tests;
 
 pub use laws::worked;
 pub use sizes::Sizes;

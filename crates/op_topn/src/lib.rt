@@ -4,8 +4,6 @@
 mod emitting;
 mod laws;
 mod sizes;
-#[cfg(test)]
-mod tests;
 mod topn;
 
 pub use laws::worked;

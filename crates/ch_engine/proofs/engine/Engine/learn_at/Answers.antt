@@ -1,7 +1,7 @@
 use Rattle.std.proofs.Common.{◌≡◌, ◌≤◌, List, length, sym, ◌∙◌, subst, ap, arith}
 use Rattle.std.specs.Prelude.{slice_index_or}
 use Rattle.ch_ends.specs.Worker.{Progress}
-use Rattle.ch_stands.specs.Packets.{ack_for}
+use Rattle.ch_ends.specs.Packets.{ack_for}
 use Rattle.ch_stands.specs.Team.{is_over}
 use Rattle.ch_stands.proofs.Places.{back_at}
 use Rattle.ch_stands.proofs.Learning.{found_here}

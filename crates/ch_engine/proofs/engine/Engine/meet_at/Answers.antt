@@ -1,7 +1,7 @@
 use Rattle.std.proofs.Common.{◌≡◌, ℕ, refl, ap, sym, ◌∙◌, inl, inr, arith, min, subst}
 use Rattle.ch_protocol.specs.Machine.{Counts, one_more}
 use Rattle.ch_protocol.specs.Packets.Origin.{Switch}
-use Rattle.ch_stands.specs.Packets.{packet_for, bytes_of, ack_bytes}
+use Rattle.ch_ends.specs.Packets.{packet_for, packet_bytes, ack_bytes}
 use Rattle.ch_engine.specs.Stands.{counts_of}
 use Rattle.ch_stands.proofs.Places.{up_at, same_at}
 use Rattle.ch_engine.proofs.Meeting.{may_meet_at, meets_at, dropped, went_down, pruned, noted_there, down_more, back_more, forwarded_more, pruned_more}

@@ -1,5 +1,5 @@
 use Rattle.std.proofs.Common.{◌≡◌, sym, ◌∙◌}
-use Rattle.ch_stands.specs.Packets.{packet_for}
+use Rattle.ch_ends.specs.Packets.{packet_for}
 use Rattle.ch_stands.proofs.Places.{down_at, same_at}
 use Rattle.ch_engine.proofs.Receiving.{may_take_at, fits_at, few_rows, received_stands, received_note}
 use Rattle.ch_engine.proofs.engine.Engine.receive_at.Goals as goal

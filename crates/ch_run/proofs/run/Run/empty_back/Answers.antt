@@ -4,7 +4,7 @@ use Rattle.ch_protocol.specs.Machine.How.{Take}
 use Rattle.ch_engine.specs.declared.engine.Engine.{Engine}
 use Rattle.ch_protocol.specs.DrainEvents.{back_events}
 use Rattle.ch_stands.proofs.Lists.{length-map}
-use Rattle.ch_stands.specs.Packets.{ack_bytes}
+use Rattle.ch_ends.specs.Packets.{ack_bytes}
 use Rattle.ch_run.proofs.Leading.{way_init, way_more, way_end, way_fails, makes_same, backs_more, backs_over, backs_stop, on_err}
 use Rattle.ch_run.proofs.run.Run.empty_back.Goals as goal
 

@@ -1,14 +1,19 @@
--- The bytes of the packets on the links.
-use Rattle.std.specs.Prelude.{ℕ, Bool, false, if◌then◌else◌, List, []}
+-- The packets that the names of the protocol stand for, and their bytes on the links.
+use Rattle.std.specs.Prelude.{ℕ, Bool, false, if◌then◌else◌, List, [], slice_index_or}
 use Rattle.ch_packet.specs.declared.packet.Packet.{Packet as BytePacket}
 use Rattle.ch_packet.specs.declared.packet.PacketKind.TheVariants.{Row as RowKind, Fin, Ack as AckKind}
 use Rattle.ch_packet.specs.Spelling.{spelling}
-use Rattle.ch_protocol.specs.Packets.{Packet, Ack, Origin}
+use Rattle.ch_protocol.specs.Packets.{Part, Packet, Ack, Origin}
 use Rattle.ch_protocol.specs.Packets.Origin.{Switch, Master}
 use Rattle.ch_protocol.specs.Machine.{Config, row_at, is_fin}
-use Rattle.ch_survival.specs.Given.{side_of}
 
--- the Row or the Fin that a name stands for, as a packet of an epoch
+abbrev pub no_part : Part
+no_part = record { side = 0; tuples = [] }
+
+abbrev pub side_of : Config → ℕ → ℕ
+side_of c w = (slice_index_or c.parts w no_part).side
+
+-- the Row or the Fin that a name stands for, as a packet of an epoch; a Fin names no row, and so it has no words and its bit is 0
 abbrev pub packet_for : Config → Packet → BytePacket
 packet_for c m = record {
   kind = if is_fin c m.name then Fin else RowKind;
@@ -37,8 +42,8 @@ ack_for a = record {
   words = [];
 }
 
-abbrev pub bytes_of : Config → Packet → List ℕ
-bytes_of c m = spelling (packet_for c m)
+abbrev pub packet_bytes : Config → Packet → List ℕ
+packet_bytes c m = spelling (packet_for c m)
 
 abbrev pub ack_bytes : Ack → List ℕ
 ack_bytes a = spelling (ack_for a)

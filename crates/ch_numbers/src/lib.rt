@@ -1,0 +1,6 @@
+//! Natural numbers in decimal, up to a greatest one.
+#![tactic(auto)]
+
+mod decimal;
+
+pub use decimal::natural;
