@@ -1,0 +1,9 @@
+pub mod Boxed
+pub mod Short
+pub mod Plans
+pub mod Limited
+pub mod Read
+pub mod Literals
+pub mod Cells
+pub mod Dictionary
+pub mod Planned
