@@ -3,3 +3,6 @@ pub mod Ready
 pub mod Coming
 pub mod Named
 pub mod Listed
+pub mod Large
+pub mod Worded
+pub mod Called

@@ -1,12 +1,15 @@
 -- The rows that are listed of an accepted trace, and what the query means over them.
-use Rattle.std.specs.Prelude.{◌≡◌, ◌<◌, ℕ, ◌==◌, if◌then◌else◌, List, [], ◌∷◌, codes, filter, flat_map, length, map, slice_index_or}
 use Rattle.std.specs.Fmt.{decimal}
 use Rattle.std.specs.List.{concat}
+use Rattle.std.specs.Prelude.{◌≡◌, ◌<◌, ℕ, ◌==◌, if◌then◌else◌, List, [], ◌∷◌, codes, filter, flat_map, length, map, slice_index_or, Ok}
 use Rattle.ch_audit_laws.specs.Said.{rows_text}
 use Rattle.ch_bind.specs.Binding.{PlainBound}
 use Rattle.ch_cells.specs.declared.Cell.{Cell}
 use Rattle.ch_cells.specs.declared.outcome.Answer.{Answer}
+use Rattle.ch_command.specs.Call.{Call, Gains}
+use Rattle.ch_command.specs.Reading.{read_all}
 use Rattle.ch_lists.specs.Members.{Each}
+use Rattle.ch_outside.specs.Shelf.{Files}
 use Rattle.ch_parts.specs.Scanned.{table_at}
 use Rattle.ch_pred.specs.Meaning.{answer_to, table_seen}
 use Rattle.ch_protocol.specs.Packets.{Name}
@@ -15,8 +18,11 @@ use Rattle.ch_tables.specs.TableValue.{TableValue}
 use Rattle.ch_trace_lines.specs.Spelling.{ending_text}
 use Rattle.ch_trace_lines.specs.declared.line.Ending.{Ending}
 use Rattle.ch_trace_lines.specs.declared.line.Ending.TheVariants.{Done}
-use Rattle.cheetah_inputs.specs.Inputs.{Given}
+use Rattle.cheetah_audit_meaning.specs.Meaning.{other_contents, without_schedule}
+use Rattle.cheetah_inputs.specs.Inputs.{AreInputs, Given, given_of, names_of}
+use Rattle.cheetah_inputs.specs.declared.inputs.Inputs.{Inputs}
 use Rattle.cheetah_run.specs.Asking.{answer_over, asked_of}
+use Rattle.cheetah_audit_laws.specs.Checked.{Asked, request_with}
 
 -- The parts that the workers scan, as rows of cells: table by table in the order of the tables, and in a table in the order of
 -- its parts.
@@ -78,3 +84,17 @@ pub record Lists (given : Given) (text : List ℕ) : Type 0 where
   pub said : text ≡ listing ending events names
   pub there : Each (IsThere (scans given.query.tables given.tables)) names
   pub whole : ending ≡ Done → answer_named given.query given.tables names ≡ answer_over given.query given.tables
+
+-- the files of a check give inputs, of which the text lists rows
+pub record IsListing (asked : Asked) (trace : List ℕ) (files : Files) (text : List ℕ) : Type 0 where
+  pub contents : List (List ℕ)
+  pub inputs : Inputs
+  pub there : read_all files (names_of (request_with asked trace)) ≡ Ok contents
+  pub read : AreInputs (without_schedule (request_with asked trace)) (other_contents (request_with asked trace) contents) inputs
+  pub lists : Lists (given_of inputs) text
+
+-- out gained such a text
+pub record CallLists (asked : Asked) (trace : List ℕ) (files : Files) (call : Call) : Type 0 where
+  pub text : List ℕ
+  pub out : Gains call.out text
+  pub lists : IsListing asked trace files text

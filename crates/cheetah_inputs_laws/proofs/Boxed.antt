@@ -1,7 +1,7 @@
 -- A predicate of each plain tree whose lists are short.
 use Rattle.std.proofs.Common.{◌≡◌, ◌∙◌, ap, sym, refl, ℕ, suc, ◌<◌, ◌^◌, List, [], ◌∷◌, map, length, Vec, Box, Global, arith}
-use denote.RawPtr.{null_ptr}
 use Rattle.std.proofs.Handle.{handle}
+use denote.RawPtr.{null_ptr}
 use Rattle.ch_pred.proofs.Layers.{plain_of-And, plain_of-Compare, plain_of-Truth}
 use Rattle.ch_pred.specs.Plain.{And, Between, Compare, Like, Not, Or, Plain, Plains, Truth, Within, cons, nil, plain_of, plain_step, plains}
 use Rattle.ch_pred.specs.declared.pred.BoundPred.{BoundPred}

@@ -2,6 +2,7 @@ pub mod Boxed
 pub mod Short
 pub mod Plans
 pub mod Limited
+pub mod Once
 pub mod Read
 pub mod Literals
 pub mod Cells

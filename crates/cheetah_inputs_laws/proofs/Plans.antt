@@ -18,6 +18,7 @@ use Rattle.ch_pred.specs.declared.bound.Bound.{Bound}
 use Rattle.ch_pred.specs.declared.bound.Shape.{Shape}
 use Rattle.ch_pred.specs.declared.bound.Shape.TheVariants as shape
 use Rattle.ch_pred.specs.declared.pred.Col.{Col}
+use Rattle.ch_prune.specs.declared.filter.Filter.{Filter}
 use Rattle.op_bloom.specs.Fine as bloom
 use Rattle.op_distinct.specs.declared.distinct.Distinct.{Distinct}
 use Rattle.op_group.specs.declared.group.Group.{Group}
@@ -27,7 +28,6 @@ use Rattle.op_moves.specs.Columns.{place_of}
 use Rattle.op_semi.specs.declared.semi.Semi.{Semi}
 use Rattle.op_skyline.specs.declared.skyline.Skyline.{Skyline}
 use Rattle.op_topn.specs.declared.topn.TopN.{TopN}
-use Rattle.ch_prune.specs.declared.filter.Filter.{Filter}
 
 -- the limit of an ORDER BY fits 32 bits
 abbrev pub IsLimited : Shape → Type 0

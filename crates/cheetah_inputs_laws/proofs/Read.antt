@@ -18,8 +18,8 @@ use Rattle.ch_sql.proofs.Readings.{spelled_parsed}
 use Rattle.ch_sql_grammar.specs.Tree.{Select}
 use Rattle.ch_sql_limits.specs.Texts.{Spells}
 use Rattle.ch_tables.specs.TableValue.{TableValue}
-use Rattle.cheetah_inputs.proofs.Meanings.{contents_some}
 use Rattle.cheetah_inputs.proofs.Chains.{reads_then, refused_then}
+use Rattle.cheetah_inputs.proofs.Meanings.{contents_some}
 use Rattle.cheetah_inputs.specs.Inputs.{AfterGiven, AreInputs, GivesSchedule, OfContents, OfSchedule, OfTables, never, profile_or_line, profile_text, schedule_text, tables_or_line}
 use Rattle.cheetah_inputs.specs.Messages.{bind_line}
 use Rattle.cheetah_inputs.specs.Question.{AfterBound, IsQuestion, OfBound, OfQuestion, OfSelect, bound_or_refused, or_refused, refused_sum, summed_or_refused, unfiltered}
