@@ -1,12 +1,13 @@
+//! The texts that a query asks of its table.
 ghost use Rattle.std.specs.Prelude.{◌≡◌, ◌<◌, [], ◌∷◌, length, IfOk};
 
+use crate::reading::{cut, read};
 use ch_asked::rank_texts;
 use ch_cells::{Bytes, Kind, Listed, Memory};
 use ch_pred::{Arg, Bound, BoundPred, Cmp, Col, Literal, Printed, Shape};
 use ch_ranks::Ranks;
-use ch_tables::{Room, Table, read_table};
+use ch_tables::Table;
 use std::alloc::Global;
-use std::test::Fail;
 
 const B: Col = Col { side: 0, at: 1 };
 
@@ -31,7 +32,6 @@ fn filter(alloc: Global) -> Result<BoundPred, Memory> {
 fn query(alloc: Global) -> Result<Bound, Memory>
     ensures { IfOk result (λ b. b.tables ≡ 0 ∷ []) }
 {
-    let filter = filter(alloc)?;
     let tables = one(alloc, 0)?;
     let columns = one(alloc, 1)?;
     let carried = one(alloc, columns)?;
@@ -40,6 +40,7 @@ fn query(alloc: Global) -> Result<Bound, Memory>
     let name = Bytes::from_slice(alloc, b"b")?;
     let header = one(alloc, name)?;
     let printed = one(alloc, Printed::Column(B))?;
+    let filter = filter(alloc)?;
     Ok(Bound {
         tables,
         carried,
@@ -59,19 +60,23 @@ fn dictionary(alloc: Global, query: &Bound, tables: &[Table]) -> Result<Ranks, M
     rank_texts(alloc, query, tables)
 }
 
-/// The texts of the table and of the literals, and no pattern.
-#[test]
-fn texts_are_gathered(rt: HostRuntime) -> Result<(), Fail> {
-    let alloc = rt.alloc();
-    let parts = one(alloc, Bytes::from_slice(alloc, b"a,b\n1,y\n2,x\n3,y\n")?)?;
-    let room = Room { rows: 9, cells: 99 };
-    let tables = one(alloc, read_table(alloc, b"t", &parts, room)?)?;
+/// The dictionary of the query over this table.
+fn asked(alloc: Global, table: Table) -> Result<Ranks, Memory> {
+    let tables = one(alloc, table)?;
     let query = query(alloc)?;
-    let ranks = dictionary(alloc, &query, tables.as_slice())?;
-    assert_eq!(rt; ranks.size(), 3);
-    assert_eq!(rt; ranks.rank(b"m"), Some(0));
-    assert_eq!(rt; ranks.rank(b"x"), Some(1));
-    assert_eq!(rt; ranks.rank(b"y"), Some(2));
-    assert_eq!(rt; ranks.rank(b"q"), None);
-    Ok(())
+    dictionary(alloc, &query, tables.as_slice())
+}
+
+/// The ranks of texts in that dictionary.
+pub(crate) fn ranks(alloc: Global, said: &str) -> anyhow::Result<String> {
+    let (texts, parts) = cut(said);
+    let ranks = asked(alloc, read(alloc, parts)?)?;
+    let size = ranks.size();
+    let mut line = format!(in alloc; "{size} ranks")?;
+    for text in texts.split(',') {
+        let rank = ranks.rank(text.as_bytes());
+        line.push_str(format!(in alloc; ", {text} {rank:?}")?.as_str())?;
+    }
+    line.push('\n')?;
+    Ok(line)
 }

@@ -1,15 +1,16 @@
+//! Rows of a table as words, and their bits.
 ghost use Rattle.std.specs.Prelude.{◌≡◌, All, bytes_eq, codes, true, IfOk};
 ghost use Rattle.std.specs.List.{list_any};
 ghost use Rattle.ch_pred.specs.Plain.{Like, plain_of};
 ghost use Rattle.ch_tables.specs.Texts.{texts_of};
 
-use ch_cells::{Bytes, Listed, Memory};
+use crate::reading::read;
+use ch_cells::{Bytes, Memory};
 use ch_pred::{BoundPred, Col, weak};
 use ch_ranks::{Ranks, RanksBuilder};
 use ch_table_words::{add_texts, own_part, push_words, row_bit, text_ranks};
-use ch_tables::{Room, Table, read_table};
+use ch_tables::Table;
 use std::alloc::Global;
-use std::test::Fail;
 
 /// The dictionary of a table's texts.
 fn dictionary(alloc: Global, table: &Table) -> Result<Ranks, Memory>
@@ -23,7 +24,7 @@ fn dictionary(alloc: Global, table: &Table) -> Result<Ranks, Memory>
 }
 
 /// The words of the last of three rows.
-fn last_words(alloc: Global, table: &Table) -> Result<Vec<i64>, Fail> {
+fn last_words(alloc: Global, table: &Table) -> Result<Vec<i64>, Memory> {
     let ranks = dictionary(alloc, table)?;
     let places = text_ranks(alloc, table, &ranks)?;
     let mut words = Vec::new(alloc);
@@ -33,15 +34,11 @@ fn last_words(alloc: Global, table: &Table) -> Result<Vec<i64>, Fail> {
     Ok(words)
 }
 
-#[test]
-fn rows_are_words(rt: HostRuntime) -> Result<(), Fail> {
-    let alloc = rt.alloc();
-    let mut parts = Listed::new(alloc);
-    parts.push(Bytes::from_slice(alloc, b"a,b\nx,7\nc,8\nx,9\n")?)?;
-    let room = Room { rows: 9, cells: 99 };
-    let table = read_table(alloc, b"t", &parts, room)?;
-    assert_eq!(rt; last_words(alloc, &table)?.as_slice(), [1, 9].as_slice());
-    Ok(())
+pub(crate) fn last(alloc: Global, said: &str) -> anyhow::Result<String> {
+    let table = read(alloc, said)?;
+    let words = last_words(alloc, &table)?;
+    let line = format!(in alloc; "{:?}\n", words.as_slice())?;
+    Ok(line)
 }
 
 /// `b LIKE 'x%'`
@@ -53,26 +50,35 @@ fn begins_with_x(alloc: Global) -> Result<BoundPred, Memory>
 }
 
 /// The bits of a table's two rows by that filter, if it has two columns.
-fn bits(table: &Table, own: &BoundPred) -> (bool, bool)
+fn bits_of(table: &Table, own: &BoundPred) -> Option<(bool, bool)>
     requires { plain_of own.now ≡ Like (record { side = 0; at = 1 }) (codes "x") }
 {
     if table.parts() == 1 && table.rows(0) == 2 && table.header().len() == 2 {
-        (row_bit(own, table, 0, 0, 0), row_bit(own, table, 0, 0, 1))
+        Some((row_bit(own, table, 0, 0, 0), row_bit(own, table, 0, 0, 1)))
     } else {
-        (true, false)
+        None
     }
 }
 
-#[test]
-fn bits_are_by_part(rt: HostRuntime) -> Result<(), Fail> {
-    let alloc = rt.alloc();
-    let mut parts = Listed::new(alloc);
-    parts.push(Bytes::from_slice(alloc, b"a,b\n1,y\n1,x\n")?)?;
-    let room = Room { rows: 9, cells: 99 };
-    let table = read_table(alloc, b"t", &parts, room)?;
+/// The bits of two rows by the part that is told by the first table.
+fn own_bits(alloc: Global, table: &Table) -> Result<Option<(bool, bool)>, Memory> {
     let filter = begins_with_x(alloc)?;
-    let own = own_part(alloc, &filter, 0)?;
-    assert_eq!(rt; bits(&table, &own), (false, true));
-    assert!(rt; weak(alloc, &filter, 0)? == BoundPred::Truth);
-    Ok(())
+    let own = own_part(alloc, &filter, 0);
+    drop(filter);
+    Ok(bits_of(table, &own?))
+}
+
+fn weak_passes_all(alloc: Global) -> Result<bool, Memory> {
+    let filter = begins_with_x(alloc)?;
+    let weakened = weak(alloc, &filter, 0);
+    drop(filter);
+    Ok(weakened? == BoundPred::Truth)
+}
+
+pub(crate) fn bits(alloc: Global, said: &str) -> anyhow::Result<String> {
+    let table = read(alloc, said)?;
+    let bits = own_bits(alloc, &table)?;
+    let all = weak_passes_all(alloc)?;
+    let line = format!(in alloc; "{bits:?}, weak {all}\n")?;
+    Ok(line)
 }

@@ -1,7 +1,7 @@
 use Rattle.std.proofs.Common.{◌∙◌, List, ℕ, ap}
 use Rattle.ch_tables.specs.Texts.{texts_of, with_texts}
 use Rattle.ch_table_words.proofs.Dictionaries.{ranked_texts}
-use Rattle.ch_table_rows.proofs.table_words.dictionary.Goals as goal
+use Rattle.ch_table_rows.proofs.row_words.dictionary.Goals as goal
 
 pub returns : goal.returns
 returns c = ranked_texts c.in_ok-ranks.ranks c.add_texts.new.builder (texts_of c.args.table.now) c.in_ok-ranks.ensures.same
