@@ -1,78 +1,46 @@
+//! Rows of words of one width.
+use crate::reading::{cut, places_of, words_of};
 use ch_cells::Memory;
 use ch_flat::{Rows, picked};
 use std::alloc::Global;
-use std::test::Fail;
 
-/// Rows of the words at some places of `WORDS`, and the same rows in ascending order.
-struct Case {
-    width: usize,
-    rows: &'static [&'static [usize]],
-    sorted: &'static [&'static [i64]],
-}
-
-const WORDS: &[i64] = &[7, -2, 2305843009213693951, 0];
-
-const CASES: &[Case] = &[
-    Case {
-        width: 3,
-        rows: &[&[0, 2, 1], &[1, 0, 0], &[0, 1, 3], &[0, 2, 1], &[0, 2, 4]],
-        sorted: &[
-            &[-2, 7, 7],
-            &[7, -2, 0],
-            &[7, 2305843009213693951, -2],
-            &[7, 2305843009213693951, -2],
-            &[7, 2305843009213693951, 0],
-        ],
-    },
-    Case {
-        width: 0,
-        rows: &[&[], &[]],
-        sorted: &[&[], &[]],
-    },
-    Case {
-        width: 1,
-        rows: &[],
-        sorted: &[],
-    },
-];
-
-/// Adds rows, as long as they have the width of those that are there.
-fn add_rows(rows: &mut Rows, places: &[&[usize]]) -> Result<(), Memory> {
-    for row in places {
-        if row.len() == rows.width() && rows.len() < 9 {
-            rows.push_picked(WORDS, row)?;
-        }
+/// Adds a row, if it has the width of those that are there.
+fn add_row(rows: &mut Rows, words: &[i64], places: &[usize]) -> Result<(), Memory> {
+    if places.len() == rows.width() && rows.len() < 9 {
+        rows.push_picked(words, places)?;
     }
     Ok(())
 }
 
-/// Whether a case's rows are sorted as it says, and stay as they are.
-fn is_sorted(alloc: Global, case: &Case) -> Result<bool, Memory> {
-    let mut rows = Rows::new(alloc, case.width);
-    add_rows(&mut rows, case.rows)?;
+/// The rows of `WORDS/PLACES/PLACES..`.
+fn rows_of(alloc: Global, width: usize, said: &str) -> anyhow::Result<Rows> {
+    let mut rows = Rows::new(alloc, width);
+    let mut pieces = said.split('/');
+    let words = words_of(alloc, pieces.next().unwrap_or(""))?;
+    for piece in pieces {
+        let places = places_of(alloc, piece)?;
+        add_row(&mut rows, words.as_slice(), places.as_slice())?;
+    }
+    Ok(rows)
+}
+
+pub(crate) fn flat(alloc: Global, said: &str) -> anyhow::Result<String> {
+    let (width, said) = cut(said, "/");
+    let rows = rows_of(alloc, width.parse::<usize>()?, said)?;
     let sorted = rows.sorted(alloc)?;
-    if sorted.len() != case.sorted.len() || rows.len() != case.rows.len() {
-        return Ok(false);
-    }
+    let mut line = format!(in alloc; "{} rows", rows.len())?;
     for at in 0..sorted.len() {
-        if sorted.row(at) != case.sorted[at] {
-            return Ok(false);
-        }
+        let row = sorted.row(at);
+        line.push_str(format!(in alloc; " {row:?}")?.as_str())?;
     }
-    Ok(true)
+    line.push('\n')?;
+    Ok(line)
 }
 
-#[test]
-fn rows_are_sorted(rt: HostRuntime) -> Result<(), Fail> {
-    for case in CASES {
-        assert!(rt; is_sorted(rt.alloc(), case)?);
-    }
-    Ok(())
-}
-
-#[test]
-fn words_are_picked(rt: HostRuntime) -> Result<(), Fail> {
-    let row = picked(rt.alloc(), WORDS, &[2, 4, 1])?;
-    assert_eq!(rt; row.as_slice(), [2305843009213693951, 0, -2].as_slice());
-    Ok(())
+pub(crate) fn words_picked(alloc: Global, said: &str) -> anyhow::Result<String> {
+    let (words, places) = cut(said, "/");
+    let words = words_of(alloc, words)?;
+    let places = places_of(alloc, places)?;
+    let row = picked(alloc, words.as_slice(), places.as_slice())?;
+    Ok(format!(in alloc; "{:?}\n", row.as_slice())?)
 }

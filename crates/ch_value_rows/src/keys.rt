@@ -1,57 +1,35 @@
+//! Different rows of words.
+use crate::reading::{cut, words_of};
 use ch_keys::Keys;
 use std::alloc::Global;
-use std::test::Fail;
 
-const ADDED: &[&[i64]] = &[&[7, 1], &[-3, 5], &[7, 1], &[], &[7]];
-
-/// Rows, each with its number among those added.
-const NUMBERS: &[(&[i64], Option<usize>)] = &[
-    (&[7, 1], Some(0)),
-    (&[-3, 5], Some(1)),
-    (&[], Some(2)),
-    (&[7], Some(3)),
-    (&[1, 7], None),
-    (&[7, 1, 0], None),
-];
-
-const SORTED: &[&[i64]] = &[&[], &[-3, 5], &[7], &[7, 1]];
-
-/// Whether a number's key is the row, or there is no number.
-fn is_key(keys: &Keys, number: Option<usize>, row: &[i64]) -> bool {
-    match number {
-        Some(number) => match keys.key(number) {
-            Some(key) => key == row,
-            None => false,
-        },
-        None => true,
-    }
-}
-
-fn added(alloc: Global) -> Result<Keys, Fail> {
+fn added(alloc: Global, said: &str) -> anyhow::Result<Keys> {
     let mut keys = Keys::new(alloc);
-    for row in ADDED {
-        keys.add(Vec::from_slice(alloc, row)?)?;
+    for row in said.split('/') {
+        keys.add(words_of(alloc, row)?)?;
     }
     Ok(keys)
 }
 
-#[test]
-fn keys_are_numbered(rt: HostRuntime) -> Result<(), Fail> {
-    let keys = added(rt.alloc())?;
-    assert_eq!(rt; keys.len(), 4);
-    for asked in NUMBERS {
-        assert!(rt; keys.find(asked.0) == asked.1);
-        assert!(rt; keys.has(asked.0) == asked.1.is_some());
-        assert!(rt; is_key(&keys, asked.1, asked.0));
-    }
-    assert!(rt; keys.key(4).is_none());
-    Ok(())
+/// How many there are, those in their order, and whether one has the number behind the last.
+pub(crate) fn keys(alloc: Global, said: &str) -> anyhow::Result<String> {
+    let keys = added(alloc, said)?;
+    let sorted = keys.sorted(alloc)?;
+    let count = keys.len();
+    let behind = keys.key(count).is_some();
+    let rows = sorted.as_slice();
+    Ok(format!(in alloc; "{count} keys {rows:?}, behind them {behind}\n")?)
 }
 
-#[test]
-fn keys_are_sorted(rt: HostRuntime) -> Result<(), Fail> {
-    let keys = added(rt.alloc())?;
-    let sorted = keys.sorted(rt.alloc())?;
-    assert!(rt; sorted.as_slice() == SORTED);
-    Ok(())
+pub(crate) fn find(alloc: Global, said: &str) -> anyhow::Result<String> {
+    let (row, rows) = cut(said, " in ");
+    let row = words_of(alloc, row)?;
+    let keys = added(alloc, rows)?;
+    let number = keys.find(row.as_slice());
+    let there = keys.has(row.as_slice());
+    let key = match number {
+        Some(number) => keys.key(number),
+        None => None,
+    };
+    Ok(format!(in alloc; "{number:?} {there} {key:?}\n")?)
 }

@@ -1,23 +1,22 @@
+//! The different columns of a query, and their places.
 ghost use Rattle.std.specs.Prelude.{◌≡◌, [], ◌∷◌, IfOk};
 
 use ch_cells::{Kind, Listed, Memory};
 use ch_places::{count_different, count_printed, different_places, printed_cols};
 use ch_pred::{Bound, BoundPred, Col, Printed, Shape};
 use std::alloc::Global;
-use std::test::Fail;
 
 const A: Col = Col { side: 0, at: 0 };
 
 const B: Col = Col { side: 0, at: 1 };
 
-#[test]
-fn repeats_count_once(rt: HostRuntime) -> Result<(), Fail> {
-    assert_eq!(rt; count_different(&[A, B, A]), 2);
+pub(crate) fn repeats(alloc: Global) -> anyhow::Result<String> {
+    let columns = count_different(&[A, B, A]);
     let items = [Printed::Column(A), Printed::Best, Printed::Column(A)];
-    assert_eq!(rt; count_printed(&items), 1);
-    let cols = printed_cols(rt.alloc(), &items)?;
-    assert_eq!(rt; cols.len(), 2);
-    Ok(())
+    let printed = count_printed(&items);
+    let cols = printed_cols(alloc, &items)?;
+    let all = cols.len();
+    Ok(format!(in alloc; "{columns} different, {printed} printed of {all}\n")?)
 }
 
 fn listed<T: Drop>(alloc: Global, first: T, second: T) -> Result<Listed<T>, Memory>
@@ -48,10 +47,14 @@ fn query(alloc: Global) -> Result<Bound, Memory>
     })
 }
 
-#[test]
-fn places_ascend(rt: HostRuntime) -> Result<(), Fail> {
-    let query = query(rt.alloc())?;
-    let places = different_places(rt.alloc(), &query, &[B, A, B])?;
-    assert!(rt; places.as_slice() == [3, 4].as_slice());
-    Ok(())
+fn carried_places(alloc: Global) -> Result<Listed<u32>, Memory> {
+    let query = query(alloc)?;
+    let places = different_places(alloc, &query, &[B, A, B]);
+    drop(query);
+    places
+}
+
+pub(crate) fn places(alloc: Global) -> anyhow::Result<String> {
+    let places = carried_places(alloc)?;
+    Ok(format!(in alloc; "{:?}\n", places.as_slice())?)
 }

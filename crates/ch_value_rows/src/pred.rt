@@ -1,10 +1,9 @@
+//! Whether a row passes predicates, and what one table can tell of them.
+use crate::predicates::{TEXT, pred_of};
+use crate::reading::cut;
 use ch_cells::{Bytes, CellRef, Kind, Listed, Memory};
-use ch_pred::{
-    Arg, Bound, BoundPred, Cells, Cmp, Col, Literal, Printed, Shape, copy_bound, holds, is_exact,
-    part, weak,
-};
+use ch_pred::{Bound, BoundPred, Cells, Printed, Shape, copy_bound, holds, is_exact, part, weak};
 use std::alloc::Global;
-use std::test::Fail;
 
 /// A number in column 0 and a text in every other column.
 #[derive(Drop)]
@@ -30,116 +29,56 @@ impl Cells for Pair {
     }
 }
 
-const NUMBER: Col = Col { side: 0, at: 0 };
-
-const TEXT: Col = Col { side: 0, at: 1 };
-
-fn text(alloc: Global, bytes: &[u8]) -> Result<Literal, Memory> {
-    Ok(Literal::Text(Bytes::from_slice(alloc, bytes)?))
-}
-
-fn number_is(cmp: Cmp, n: i64) -> BoundPred {
-    BoundPred::Compare(NUMBER, cmp, Arg::Value(Literal::Number(n)))
-}
-
-fn like(alloc: Global, col: Col, prefix: &[u8]) -> Result<BoundPred, Memory> {
-    Ok(BoundPred::Like(col, Bytes::from_slice(alloc, prefix)?))
-}
-
-fn both(alloc: Global, a: BoundPred, b: BoundPred) -> Result<Vec<BoundPred>, Memory> {
-    let mut members = Vec::new(alloc);
-    members.push(a)?;
-    members.push(b)?;
-    Ok(members)
-}
-
-/// Each predicate with whether a row of 5 and `ab` passes it.
-fn cases(alloc: Global) -> Result<Vec<(BoundPred, bool)>, Fail> {
-    let mut literals = Vec::new(alloc);
-    literals.push(text(alloc, b"b")?)?;
-    literals.push(Literal::Number(5))?;
-    let within = BoundPred::Within(NUMBER, literals);
-    let column = BoundPred::Compare(NUMBER, Cmp::Lt, Arg::Column(TEXT));
-    let number = Arg::Value(Literal::Number(9));
-    let between = BoundPred::Between(TEXT, text(alloc, b"ab")?, text(alloc, b"ab")?);
-    let under = BoundPred::Between(NUMBER, Literal::Number(6), Literal::Number(9));
-    let mut cases = Vec::new(alloc);
-    cases.push((BoundPred::Truth, true))?;
-    cases.push((number_is(Cmp::Eq, 5), true))?;
-    cases.push((number_is(Cmp::Ne, 5), false))?;
-    cases.push((number_is(Cmp::Lt, 5), false))?;
-    cases.push((number_is(Cmp::Le, 5), true))?;
-    cases.push((number_is(Cmp::Gt, 4), true))?;
-    cases.push((number_is(Cmp::Ge, 6), false))?;
-    cases.push((column, true))?;
-    cases.push((BoundPred::Compare(TEXT, Cmp::Le, number), false))?;
-    cases.push((between, true))?;
-    cases.push((under, false))?;
-    cases.push((within, true))?;
-    cases.push((like(alloc, TEXT, b"a")?, true))?;
-    cases.push((like(alloc, TEXT, b"abc")?, false))?;
-    cases.push((like(alloc, NUMBER, b"")?, false))?;
-    more_cases(alloc, &mut cases)?;
-    Ok(cases)
-}
-
-/// Those with members.
-fn more_cases(alloc: Global, cases: &mut Vec<(BoundPred, bool)>) -> Result<(), Fail> {
-    let mixed = both(alloc, number_is(Cmp::Eq, 5), number_is(Cmp::Eq, 6))?;
-    cases.push((BoundPred::And(mixed), false))?;
-    let mixed = both(alloc, number_is(Cmp::Eq, 6), number_is(Cmp::Eq, 5))?;
-    cases.push((BoundPred::Or(mixed), true))?;
-    let same = both(alloc, number_is(Cmp::Ge, 5), BoundPred::Truth)?;
-    cases.push((BoundPred::And(same), true))?;
-    cases.push((BoundPred::And(Vec::new(alloc)), true))?;
-    cases.push((BoundPred::Or(Vec::new(alloc)), false))?;
-    let inner = Box::new(alloc, number_is(Cmp::Eq, 6))?;
-    cases.push((BoundPred::Not(inner), true))?;
-    Ok(())
-}
-
-#[test]
-fn rows_pass_predicates(rt: HostRuntime) -> Result<(), Fail> {
+/// Whether a row of 5 and `ab` passes a predicate.
+fn row_passes(pred: &BoundPred) -> bool {
     let row = Pair {
         number: 5,
         text: b"ab",
     };
-    for (at, case) in cases(rt.alloc())?.iter().enumerate() {
-        assert_eq!(rt; holds(&case.0, &row), case.1, "case {at}");
+    holds(pred, &row)
+}
+
+pub(crate) fn passed(alloc: Global, said: &str) -> anyhow::Result<String> {
+    let pred = pred_of(alloc, said)?;
+    let passes = row_passes(&pred);
+    drop(pred);
+    Ok(format!(in alloc; "{passes}\n")?)
+}
+
+/// The two predicates of a line.
+fn two_of(alloc: Global, said: &str) -> anyhow::Result<Vec<BoundPred>> {
+    let (first, second) = cut(said, " as ");
+    let mut both = Vec::new(alloc);
+    both.push(pred_of(alloc, first)?)?;
+    both.push(pred_of(alloc, second)?)?;
+    Ok(both)
+}
+
+pub(crate) fn weak_filter(alloc: Global, said: &str) -> anyhow::Result<String> {
+    let (side, said) = cut(said, " ");
+    let side = side.parse::<u8>()?;
+    let both = two_of(alloc, said)?;
+    if let [first, second] = both.as_slice() {
+        let weakened = weak(alloc, first, side)?;
+        let same = weakened == *second;
+        drop(weakened);
+        let (before, after) = (is_exact(first), is_exact(second));
+        return Ok(format!(in alloc; "{same}, exact {before} {after}\n")?);
     }
-    Ok(())
+    Ok(String::new(alloc))
 }
 
-/// A column of the second table.
-const OTHER: Col = Col { side: 1, at: 0 };
-
-/// `NOT (a LIKE 'x%' OR b <= 1)`
-fn neither(alloc: Global) -> Result<BoundPred, Memory> {
-    let least = number_is(Cmp::Le, 1);
-    let members = both(alloc, like(alloc, TEXT, b"x")?, least)?;
-    Ok(BoundPred::Not(Box::new(alloc, BoundPred::Or(members))?))
-}
-
-#[test]
-fn weak_filters_have_no_like(rt: HostRuntime) -> Result<(), Fail> {
-    let alloc = rt.alloc();
-    let p = neither(alloc)?;
-    let wanted = number_is(Cmp::Gt, 1);
-    assert!(rt; weak(alloc, &p, 0)? == wanted);
-    assert!(rt; !is_exact(&p) && is_exact(&wanted));
-    Ok(())
-}
-
-#[test]
-fn parts_are_of_a_side(rt: HostRuntime) -> Result<(), Fail> {
-    let alloc = rt.alloc();
-    let second = BoundPred::Compare(OTHER, Cmp::Gt, Arg::Value(Literal::Number(1)));
-    let p = BoundPred::And(both(alloc, like(alloc, TEXT, b"a")?, second)?);
-    let first = like(alloc, TEXT, b"a")?;
-    assert!(rt; part(alloc, &p, 0)? == first);
-    let second = BoundPred::Compare(OTHER, Cmp::Gt, Arg::Value(Literal::Number(1)));
-    assert!(rt; part(alloc, &p, 1)? == second);
-    Ok(())
+pub(crate) fn side_part(alloc: Global, said: &str) -> anyhow::Result<String> {
+    let (side, said) = cut(said, " ");
+    let side = side.parse::<u8>()?;
+    let both = two_of(alloc, said)?;
+    if let [first, second] = both.as_slice() {
+        let own = part(alloc, first, side)?;
+        let same = own == *second;
+        drop(own);
+        return Ok(format!(in alloc; "{same}\n")?);
+    }
+    Ok(String::new(alloc))
 }
 
 fn one<T: Drop>(alloc: Global, item: T) -> Result<Listed<T>, Memory> {
@@ -153,25 +92,35 @@ fn counted(alloc: Global) -> Result<Bound, Memory> {
     let carried = one(alloc, one(alloc, 1)?)?;
     let kinds = one(alloc, one(alloc, Kind::Text)?)?;
     let header = one(alloc, Bytes::from_slice(alloc, b"b")?)?;
+    let tables = one(alloc, 0)?;
+    let printed = one(alloc, Printed::Column(TEXT))?;
+    let keys = one(alloc, TEXT)?;
     Ok(Bound {
-        tables: one(alloc, 0)?,
+        tables,
         carried,
         kinds,
         header,
-        printed: one(alloc, Printed::Column(TEXT))?,
-        filter: neither(alloc)?,
+        printed,
+        filter: BoundPred::Truth,
         shape: Shape::Having {
-            keys: one(alloc, TEXT)?,
+            keys,
             sum: None,
             above: 3,
         },
     })
 }
 
-#[test]
-fn copies_are_equal(rt: HostRuntime) -> Result<(), Fail> {
-    let b = counted(rt.alloc())?;
-    let copy = copy_bound(rt.alloc(), &b)?;
-    assert!(rt; copy == b);
-    Ok(())
+fn is_copied(alloc: Global, query: &Bound) -> Result<bool, Memory> {
+    let copy = copy_bound(alloc, query)?;
+    let same = copy == *query;
+    drop(copy);
+    Ok(same)
+}
+
+pub(crate) fn copy(alloc: Global, said: &str) -> anyhow::Result<String> {
+    let mut query = counted(alloc)?;
+    query.filter = pred_of(alloc, said)?;
+    let same = is_copied(alloc, &query);
+    drop(query);
+    Ok(format!(in alloc; "{}\n", same?)?)
 }

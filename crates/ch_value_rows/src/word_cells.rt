@@ -1,13 +1,17 @@
+//! Filters on the words of rows.
 ghost use Rattle.std.specs.Prelude.{◌≡◌, ◌∷◌, [], length, pos, true, ◌≤ℤ◌, ◌<ℤ◌, IfOk};
 
+use crate::ranks::dictionary;
+use crate::reading::cut;
 use ch_cells::{Bytes, Kind, Listed, Memory};
 use ch_pred::{Arg, Bound, BoundPred, Cmp, Col, Printed, Shape};
-use ch_ranks::{Ranks, RanksBuilder};
+use ch_ranks::Ranks;
 use ch_word_cells::{holds_on_pair, holds_on_row};
 use std::alloc::Global;
-use std::test::Fail;
 
 const TEXT: Col = Col { side: 0, at: 1 };
+
+const OTHER: Col = Col { side: 1, at: 0 };
 
 fn one<T: Drop>(alloc: Global, item: T) -> Result<Listed<T>, Memory>
     ensures { IfOk result (λ list. list ≡ item ∷ []) }
@@ -16,42 +20,6 @@ fn one<T: Drop>(alloc: Global, item: T) -> Result<Listed<T>, Memory>
     list.push(item)?;
     Ok(list)
 }
-
-/// Whether the row with this word passes `b LIKE 'x%'`, if the word is a rank.
-fn passes(alloc: Global, ranks: &Ranks, word: i64) -> Result<bool, Fail> {
-    let carried = one(alloc, one(alloc, 1)?)?;
-    let kinds = one(alloc, one(alloc, Kind::Text)?)?;
-    let header = one(alloc, Bytes::from_slice(alloc, b"b")?)?;
-    let printed = one(alloc, Printed::Column(TEXT))?;
-    let prefix = Bytes::from_slice(alloc, b"x")?;
-    let query = Bound {
-        tables: one(alloc, 0)?,
-        carried,
-        kinds,
-        header,
-        printed,
-        filter: BoundPred::Like(TEXT, prefix),
-        shape: Shape::Filter,
-    };
-    if word < 0 || word >= i64::from(ranks.size()) {
-        return Ok(false);
-    }
-    Ok(holds_on_row(&query, ranks, &[word]))
-}
-
-#[test]
-fn ranks_are_read(rt: HostRuntime) -> Result<(), Fail> {
-    let alloc = rt.alloc();
-    let mut builder = RanksBuilder::new(alloc);
-    builder.add(b"xa")?;
-    builder.add(b"b")?;
-    let ranks = builder.finish()?;
-    assert!(rt; !passes(alloc, &ranks, 0)?);
-    assert!(rt; passes(alloc, &ranks, 1)?);
-    Ok(())
-}
-
-const OTHER: Col = Col { side: 1, at: 0 };
 
 fn two<T: Drop>(alloc: Global, first: T, second: T) -> Result<Listed<T>, Memory>
     ensures { IfOk result (λ list. list ≡ first ∷ second ∷ []) }
@@ -68,8 +36,35 @@ fn is_rank(ranks: &Ranks, word: i64) -> bool
     0 <= word && word < i64::from(ranks.size())
 }
 
+/// Whether the row with this word passes `b LIKE 'x%'`, if the word is a rank.
+fn row_passes(alloc: Global, ranks: &Ranks, word: i64) -> Result<Option<bool>, Memory> {
+    let carried = one(alloc, one(alloc, 1)?)?;
+    let kinds = one(alloc, one(alloc, Kind::Text)?)?;
+    let header = one(alloc, Bytes::from_slice(alloc, b"b")?)?;
+    let printed = one(alloc, Printed::Column(TEXT))?;
+    let prefix = Bytes::from_slice(alloc, b"x")?;
+    let query = Bound {
+        tables: one(alloc, 0)?,
+        carried,
+        kinds,
+        header,
+        printed,
+        filter: BoundPred::Like(TEXT, prefix),
+        shape: Shape::Filter,
+    };
+    if word < 0 || word >= i64::from(ranks.size()) {
+        return Ok(None);
+    }
+    Ok(Some(holds_on_row(&query, ranks, &[word])))
+}
+
 /// Whether a pair of rows with these words passes `b < c`, if both are ranks.
-fn pair_passes(alloc: Global, ranks: &Ranks, left: i64, right: i64) -> Result<bool, Fail> {
+fn pair_passes(
+    alloc: Global,
+    ranks: &Ranks,
+    left: i64,
+    right: i64,
+) -> Result<Option<bool>, Memory> {
     let carried = two(alloc, one(alloc, 1)?, one(alloc, 0)?)?;
     let kinds = two(alloc, one(alloc, Kind::Text)?, one(alloc, Kind::Text)?)?;
     let header = one(alloc, Bytes::from_slice(alloc, b"b")?)?;
@@ -86,19 +81,23 @@ fn pair_passes(alloc: Global, ranks: &Ranks, left: i64, right: i64) -> Result<bo
         },
     };
     if is_rank(ranks, left) && is_rank(ranks, right) {
-        return Ok(holds_on_pair(&query, ranks, &[left], &[right]));
+        return Ok(Some(holds_on_pair(&query, ranks, &[left], &[right])));
     }
-    Ok(false)
+    Ok(None)
 }
 
-#[test]
-fn pairs_have_both_rows(rt: HostRuntime) -> Result<(), Fail> {
-    let alloc = rt.alloc();
-    let mut builder = RanksBuilder::new(alloc);
-    builder.add(b"a")?;
-    builder.add(b"b")?;
-    let ranks = builder.finish()?;
-    assert!(rt; pair_passes(alloc, &ranks, 0, 1)?);
-    assert!(rt; !pair_passes(alloc, &ranks, 1, 0)?);
-    Ok(())
+pub(crate) fn passes(alloc: Global, said: &str) -> anyhow::Result<String> {
+    let (texts, word) = cut(said, "/");
+    let ranks = dictionary(alloc, texts)?;
+    let passes = row_passes(alloc, &ranks, word.parse::<i64>()?)?;
+    Ok(format!(in alloc; "{passes:?}\n")?)
+}
+
+pub(crate) fn pair(alloc: Global, said: &str) -> anyhow::Result<String> {
+    let (texts, words) = cut(said, "/");
+    let (left, right) = cut(words, " ");
+    let ranks = dictionary(alloc, texts)?;
+    let (left, right) = (left.parse::<i64>()?, right.parse::<i64>()?);
+    let passes = pair_passes(alloc, &ranks, left, right)?;
+    Ok(format!(in alloc; "{passes:?}\n")?)
 }
