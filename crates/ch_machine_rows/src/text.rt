@@ -1,31 +1,37 @@
+//! Programs of texts, in a pipeline.
 use ch_asm::read_program;
 use ch_cells::Memory;
 use ch_ir::{Program, cells_of, default_profile, entries_of};
 use ch_pipe::Pipe;
 use ch_verify::{is_countable, verify};
 use std::alloc::Global;
-use std::process::Abort;
-use std::test::Fail;
 
 /// The program whose text has these lines between its first and its last.
-pub fn program(alloc: Global, lines: &str) -> Result<Program, Fail> {
+pub(crate) fn program(alloc: Global, lines: &str) -> anyhow::Result<Program> {
     let mut text = Vec::from_slice(alloc, b"cheetah program 1\n")?;
-    text.extend_from_slice(lines.as_bytes())?;
+    for line in lines.split('|') {
+        if !line.is_empty() {
+            text.extend_from_slice(line.as_bytes())?;
+            text.push(b'\n')?;
+        }
+    }
     text.extend_from_slice(b"end\n")?;
     Ok(read_program(alloc, text.as_slice())?)
 }
 
 /// The program in a pipeline.
-pub fn installed(rt: &(impl Abort + AllocGlobal), program: Program) -> Result<Pipe, Memory> {
-    assert!(rt; is_countable(&program));
-    match verify(rt.alloc(), program, &default_profile()) {
-        Ok(checked) => Pipe::install(rt.alloc(), checked),
-        Err(refused) => panic!(rt; "{refused}"),
+pub(crate) fn installed(alloc: Global, lines: &str) -> anyhow::Result<Pipe> {
+    let program = program(alloc, lines)?;
+    if !is_countable(&program) {
+        drop(program);
+        return Err(Memory.into());
     }
+    let checked = verify(alloc, program, &default_profile())?;
+    Ok(Pipe::install(alloc, checked)?)
 }
 
 /// Numbers with commas between them; `-` for none.
-pub fn numbers(alloc: Global, text: &str) -> Result<Vec<i64>, Fail> {
+pub(crate) fn numbers(alloc: Global, text: &str) -> anyhow::Result<Vec<i64>> {
     let mut numbers = Vec::new(alloc);
     if text == "-" {
         return Ok(numbers);
@@ -36,28 +42,35 @@ pub fn numbers(alloc: Global, text: &str) -> Result<Vec<i64>, Fail> {
     Ok(numbers)
 }
 
-/// The verdict on a row.
-pub fn step(rt: &impl Abort, pipe: &mut Pipe, words: &[i64]) -> bool {
-    assert!(rt; words.len() <= pipe.program().width as usize);
-    pipe.step(words)
+/// Whether a row is pruned; nothing where it has too many words.
+pub(crate) fn step(pipe: &mut Pipe, words: &[i64]) -> Option<bool> {
+    if words.len() <= pipe.program().width as usize {
+        Some(pipe.step(words))
+    } else {
+        None
+    }
 }
 
-fn cell(rt: &impl Abort, pipe: &Pipe, array: u32, entry: u32, at: u32) -> i64 {
+fn cell(pipe: &Pipe, array: u32, entry: u32, at: u32) -> Option<i64> {
     let arrays = pipe.program().arrays.as_slice();
-    assert!(rt; (array as usize) < arrays.len());
-    assert!(rt; entry < entries_of(arrays, array));
-    assert!(rt; at < cells_of(arrays, array));
-    pipe.cell(array, entry, at)
+    if (array as usize) < arrays.len()
+        && entry < entries_of(arrays, array)
+        && at < cells_of(arrays, array)
+    {
+        Some(pipe.cell(array, entry, at))
+    } else {
+        None
+    }
 }
 
 /// The cells of all arrays in order.
-pub fn cells(rt: &(impl Abort + AllocGlobal), pipe: &Pipe) -> Result<Vec<i64>, Fail> {
-    let mut found = Vec::new(rt.alloc());
+pub(crate) fn cells(alloc: Global, pipe: &Pipe) -> anyhow::Result<Vec<i64>> {
+    let mut found = Vec::new(alloc);
     let mut array: u32 = 0;
     for shape in pipe.program().arrays.as_slice() {
         for entry in 0..shape.entries {
             for at in 0..shape.cells {
-                found.push(cell(rt, pipe, array, entry, at))?;
+                found.extend(cell(pipe, array, entry, at))?;
             }
         }
         array = array.saturating_add(1);
