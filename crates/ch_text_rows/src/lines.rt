@@ -1,43 +1,37 @@
+//! Lines and fields.
 use ch_lines::{is_said, next_field, next_line};
+use std::alloc::Global;
+use std::str;
 
-#[test]
-fn lines_of_a_text(rt: HostRuntime) {
-    let mut text: &[u8] = b"a\r\n\nb\r\r\nc\r";
-    let wanted: [&[u8]; 4] = [b"a", b"", b"b\r", b"c\r"];
-    for want in wanted {
-        match next_line(text) {
-            Some(cut) => {
-                assert_eq!(rt; cut.first, want);
-                text = cut.rest;
-            }
-            None => panic!(rt; "a line is missing"),
+/// The lines of a text, each in quotes.
+pub(crate) fn lines(alloc: Global, text: &[u8]) -> anyhow::Result<String> {
+    let mut said = String::new(alloc);
+    let mut rest = text;
+    for _ in 0..text.len() {
+        if let Some(cut) = next_line(rest) {
+            let line = str::from_utf8(cut.first)?;
+            said.push_str(format!(in alloc; "{line:?} ")?.as_str())?;
+            rest = cut.rest;
         }
     }
-    assert_eq!(rt; next_line(text).is_none(), true);
+    Ok(said)
 }
 
-#[test]
-fn fields_of_a_line(rt: HostRuntime) {
-    let mut line: &[u8] = b" \tab  c\t";
-    let wanted: [&[u8]; 2] = [b"ab", b"c"];
-    for want in wanted {
-        match next_field(line) {
-            Some(cut) => {
-                assert_eq!(rt; cut.first, want);
-                line = cut.rest;
-            }
-            None => panic!(rt; "a field is missing"),
+/// The fields of a line, each in quotes.
+pub(crate) fn fields(alloc: Global, line: &[u8]) -> anyhow::Result<String> {
+    let mut said = String::new(alloc);
+    let mut rest = line;
+    for _ in 0..line.len() {
+        if let Some(cut) = next_field(rest) {
+            let field = str::from_utf8(cut.first)?;
+            said.push_str(format!(in alloc; "{field:?} ")?.as_str())?;
+            rest = cut.rest;
         }
     }
-    assert_eq!(rt; next_field(line).is_none(), true);
-    let table: [(&[u8], bool); 5] = [
-        (b"", false),
-        (b" \t", false),
-        (b"#a", false),
-        (b"  # a", false),
-        (b"a #", true),
-    ];
-    for (line, said) in table {
-        assert_eq!(rt; is_said(line), said, "at {line:?}");
-    }
+    Ok(said)
+}
+
+/// Whether a line says anything.
+pub(crate) fn is_said_in(alloc: Global, line: &[u8]) -> anyhow::Result<String> {
+    Ok(format!(in alloc; "{}", is_said(line))?)
 }
