@@ -1,14 +1,14 @@
+//! Queries that are planned.
 ghost use Rattle.std.specs.Prelude.{◌≡◌, ◌<◌, ◌≤◌, [], ◌∷◌, true, false, IfOk, None, length, pos};
 ghost use Rattle.ch_plan.specs.Kinds.{IsPlannable};
 ghost use Rattle.ch_plan.specs.Needs.{greatest_length};
 ghost use Rattle.ch_pred.specs.declared.bound.Shape.TheVariants as shape;
 
 use ch_cells::{Bytes, Kind, Listed, Memory};
-use ch_ir::{LimitName, read_profile};
-use ch_plan::{PlanError, plan};
+use ch_ir::read_profile;
+use ch_plan::plan;
 use ch_pred::{Arg, Bound, BoundPred, Cmp, Col, Dim, Literal, Printed, Shape};
 use std::alloc::Global;
-use std::test::Fail;
 
 const A: Col = Col { side: 0, at: 0 };
 
@@ -95,95 +95,97 @@ fn of_two_tables(alloc: Global, shape: Shape) -> Result<Bound, Memory>
 
 /// How a query is planned by a profile: its number of passes, or why it is refused.
 #[tactic(auto, using(ch_plan::proofs::Ranged::read_is_ranged))]
-fn planned(alloc: Global, query: &Bound, profile: &[u8]) -> Result<Result<u8, PlanError>, Fail>
-    requires text { length profile.now < 100 }
+fn planned(alloc: Global, query: &Bound, profile: &[u8]) -> anyhow::Result<String>
+    requires text { length profile.now < 1000 }
     requires kind { IsPlannable query.now query.now.shape }
     requires few { greatest_length query.now.carried ≤ 16 }
 {
     let profile = read_profile(profile)?;
     match plan(alloc, query, &profile) {
-        Ok(planned) => Ok(Ok(planned.passes)),
-        Err(error) => Ok(Err(error)),
+        Ok(planned) => {
+            let passes = planned.passes;
+            drop(planned);
+            Ok(format!(in alloc; "passes {passes}")?)
+        }
+        Err(error) => Ok(format!(in alloc; "{error:?}")?),
     }
 }
 
-fn refused(which: LimitName, need: u64, have: u64) -> PlanError {
-    PlanError::Limit { which, need, have }
+fn plan_filter(alloc: Global, profile: &[u8]) -> anyhow::Result<String>
+    requires { length profile.now < 1000 }
+{
+    let query = query(alloc)?;
+    planned(alloc, &query, profile)
 }
 
-#[test]
-fn filter_is_planned_or_refused(rt: HostRuntime) -> Result<(), Fail> {
-    let query = query(rt.alloc())?;
-    assert!(rt; planned(rt.alloc(), &query, b"")? == Ok(1));
-    assert!(rt; planned(rt.alloc(), &query, b"stages 2\nwidth 4")? == Ok(1));
-    let stages = refused(LimitName::Stages, 2, 1);
-    assert!(rt; planned(rt.alloc(), &query, b"stages 1")? == Err(stages));
-    let width = refused(LimitName::Width, 4, 2);
-    assert!(rt; planned(rt.alloc(), &query, b"width 2\nstages 1")? == Err(width));
-    Ok(())
+fn plan_top(alloc: Global, profile: &[u8]) -> anyhow::Result<String>
+    requires { length profile.now < 1000 }
+{
+    let query = top_query(alloc)?;
+    planned(alloc, &query, profile)
 }
 
-#[test]
-fn top_is_planned_or_refused(rt: HostRuntime) -> Result<(), Fail> {
-    let query = top_query(rt.alloc())?;
-    assert!(rt; planned(rt.alloc(), &query, b"top_steps 1\nstages 5")? == Ok(1));
-    let stages = refused(LimitName::Stages, 12, 11);
-    assert!(rt; planned(rt.alloc(), &query, b"stages 11")? == Err(stages));
-    Ok(())
+fn plan_skyline(alloc: Global, profile: &[u8]) -> anyhow::Result<String>
+    requires { length profile.now < 1000 }
+{
+    let query = skyline_query(alloc)?;
+    planned(alloc, &query, profile)
 }
 
-#[test]
-fn skyline_is_planned_or_refused(rt: HostRuntime) -> Result<(), Fail> {
-    let query = skyline_query(rt.alloc())?;
-    assert!(rt; planned(rt.alloc(), &query, b"skyline_points 3\nstages 5")? == Ok(1));
-    let cells = refused(LimitName::Cells, 3, 2);
-    assert!(rt; planned(rt.alloc(), &query, b"cells 2")? == Err(cells));
-    Ok(())
+fn plan_having(alloc: Global, profile: &[u8]) -> anyhow::Result<String>
+    requires { length profile.now < 1000 }
+{
+    let query = having_query(alloc)?;
+    planned(alloc, &query, profile)
 }
 
-#[test]
-fn having_is_planned_or_refused(rt: HostRuntime) -> Result<(), Fail> {
-    let query = having_query(rt.alloc())?;
-    assert!(rt; planned(rt.alloc(), &query, b"sketch_hashes 1\nstages 3")? == Ok(2));
-    let cells = refused(LimitName::Cells, 2, 1);
-    assert!(rt; planned(rt.alloc(), &query, b"sketch_cells 2\ncells 1")? == Err(cells));
-    Ok(())
-}
-
-#[test]
-fn join_is_planned_or_refused(rt: HostRuntime) -> Result<(), Fail> {
+fn plan_join(alloc: Global, profile: &[u8]) -> anyhow::Result<String>
+    requires { length profile.now < 1000 }
+{
     let shape = Shape::Join {
         left: A,
         right: OTHER,
     };
-    let query = of_two_tables(rt.alloc(), shape)?;
-    assert!(rt; planned(rt.alloc(), &query, b"bloom_hashes 1\nstages 3")? == Ok(2));
-    let cells = refused(LimitName::Cells, 2, 1);
-    assert!(rt; planned(rt.alloc(), &query, b"bloom_cells 1\ncells 1")? == Err(cells));
-    Ok(())
+    let query = of_two_tables(alloc, shape)?;
+    planned(alloc, &query, profile)
 }
 
-#[test]
-fn semi_join_is_planned_or_refused(rt: HostRuntime) -> Result<(), Fail> {
+fn plan_semi(alloc: Global, profile: &[u8]) -> anyhow::Result<String>
+    requires { length profile.now < 1000 }
+{
     let shape = Shape::Semi {
         key: A,
         inner: OTHER,
     };
-    let query = of_two_tables(rt.alloc(), shape)?;
-    assert!(rt;
-        planned(
-            rt.alloc(),
-            &query,
-            b"bloom_hashes 1\ndistinct_cols 1\nstages 4"
-        )? == Ok(2)
-    );
-    let stages = refused(LimitName::Stages, 4, 3);
-    assert!(rt;
-        planned(
-            rt.alloc(),
-            &query,
-            b"bloom_hashes 1\ndistinct_cols 1\nstages 3"
-        )? == Err(stages)
-    );
-    Ok(())
+    let query = of_two_tables(alloc, shape)?;
+    planned(alloc, &query, profile)
+}
+
+/// How the query of a kind is planned.
+fn plan_kind(alloc: Global, kind: &str, profile: &[u8]) -> anyhow::Result<String>
+    requires { length profile.now < 1000 }
+{
+    match kind {
+        "filter" => plan_filter(alloc, profile),
+        "top" => plan_top(alloc, profile),
+        "skyline" => plan_skyline(alloc, profile),
+        "having" => plan_having(alloc, profile),
+        "join" => plan_join(alloc, profile),
+        "semi" => plan_semi(alloc, profile),
+        _ => Ok(String::from_str(alloc, "no kind")?),
+    }
+}
+
+/// The same by a line's words: the kind, and the text of a profile.
+pub(crate) fn plan_by(alloc: Global, said: &str) -> anyhow::Result<String> {
+    let (kind, settings) = said.split_once(' ').unwrap_or((said, ""));
+    let mut profile = Vec::new(alloc);
+    for byte in settings.as_bytes() {
+        profile.push(if *byte == b'|' { b'\n' } else { *byte })?;
+    }
+    if profile.len() < 1000 {
+        plan_kind(alloc, kind, profile.as_slice())
+    } else {
+        Ok(String::from_str(alloc, "too long")?)
+    }
 }
