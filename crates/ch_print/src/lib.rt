@@ -4,5 +4,5 @@
 mod answer;
 mod run;
 
-pub use answer::answer_text;
+pub use answer::{AnswerText, answer_text};
 pub use run::{counts_text, report_text};
