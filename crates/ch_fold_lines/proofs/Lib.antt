@@ -5,3 +5,4 @@ pub mod Held
 pub mod ShownLaws
 pub mod FilterLaws
 pub mod DistinctLaws
+pub mod TextLaws

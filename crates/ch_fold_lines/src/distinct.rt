@@ -7,12 +7,13 @@ ghost use Rattle.ch_pred.specs.declared.bound.Bound.{Bound as Query};
 ghost use Rattle.ch_pred.specs.declared.bound.Shape.TheVariants as shape;
 ghost use Rattle.ch_cover.specs.Rows.{Row};
 ghost use Rattle.ch_words.specs.Readings.{NamesOnly};
-ghost use Rattle.ch_fold_lines.specs.Rows.{RowFits, answer_read, held_lines};
+ghost use Rattle.ch_fold_lines.specs.AnswerLines.{TellAnswer};
+ghost use Rattle.ch_fold_lines.specs.Rows.{RowFits, held_lines};
 ghost use Rattle.ch_fold_lines.specs.Distinct.{StandsForDistinct};
 
+use crate::answer_lines::AnswerLines;
 use crate::places::printed_places;
-use crate::shown::answer_of_slices;
-use ch_cells::{Answer, Listed, Memory};
+use ch_cells::{Listed, Memory};
 use ch_flat::picked;
 use ch_keys::Keys;
 use ch_pred::Bound;
@@ -72,12 +73,12 @@ impl DistinctFold {
         self.lines.add(line)
     }
 
-    pub fn answer(&self, alloc: Global, query: &Bound, ranks: &Ranks) -> Result<Answer, Memory>
-        requires names { NamesOnly (IsCarried query.now) query.now }
-        ensures header { IfOk result (λ a. a.header ≡ query.now.header) }
-        ensures rows { (rows : List Row) → StandsForDistinct ranks.now query.now self.now rows → IfOk result (λ a. a.rows ≡ answer_read ranks.now query.now rows) }
+    /// The lines of the answer.
+    pub fn lines(&self, alloc: Global) -> Result<AnswerLines<'_>, Memory>
+        ensures { (texts : List (List ℕ)) (b : Query) (rows : List Row) → NamesOnly (IsCarried b) b → StandsForDistinct texts b self.now rows
+            → IfOk result (λ lines. TellAnswer texts b rows lines) }
     {
         let lines = self.lines.sorted(alloc)?;
-        answer_of_slices(alloc, query, ranks, lines.as_slice())
+        Ok(AnswerLines::InOrder(lines))
     }
 }

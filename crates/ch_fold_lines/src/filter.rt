@@ -4,12 +4,13 @@ ghost use Rattle.ch_pred.specs.declared.bound.Bound.{Bound as Query};
 ghost use Rattle.ch_pred.specs.declared.bound.Shape.TheVariants as shape;
 ghost use Rattle.ch_cover.specs.Rows.{Row};
 ghost use Rattle.ch_words.specs.Readings.{NamesOnly};
-ghost use Rattle.ch_fold_lines.specs.Rows.{RowFits, answer_read, held_lines};
+ghost use Rattle.ch_fold_lines.specs.AnswerLines.{TellAnswer};
+ghost use Rattle.ch_fold_lines.specs.Rows.{RowFits, held_lines};
 ghost use Rattle.ch_fold_lines.specs.Filter.{StandsForFilter};
 
+use crate::answer_lines::AnswerLines;
 use crate::places::printed_places;
-use crate::shown::answer_of_sorted;
-use ch_cells::{Answer, Listed, Memory};
+use ch_cells::{Listed, Memory};
 use ch_flat::Rows;
 use ch_pred::Bound;
 use ch_ranks::Ranks;
@@ -62,12 +63,10 @@ impl FilterFold {
         self.lines.push_picked(words, self.places.as_slice())
     }
 
-    pub fn answer(&self, alloc: Global, query: &Bound, ranks: &Ranks) -> Result<Answer, Memory>
-        requires names { NamesOnly (IsCarried query.now) query.now }
-        ensures header { IfOk result (λ a. a.header ≡ query.now.header) }
-        ensures rows { (rows : List Row) → StandsForFilter ranks.now query.now self.now rows → IfOk result (λ a. a.rows ≡ answer_read ranks.now query.now rows) }
+    /// The lines of the answer.
+    pub fn lines(&self) -> AnswerLines<'_>
+        ensures { (texts : List (List ℕ)) (b : Query) (rows : List Row) → NamesOnly (IsCarried b) b → StandsForFilter texts b self.now rows → TellAnswer texts b rows result }
     {
-        let lines = self.lines.sorted(alloc)?;
-        answer_of_sorted(alloc, query, ranks, &lines)
+        AnswerLines::Kept(&self.lines)
     }
 }

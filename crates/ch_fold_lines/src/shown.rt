@@ -1,7 +1,10 @@
-ghost use Rattle.std.specs.Prelude.{◌≡◌, IfOk, map};
+ghost use Rattle.std.specs.Prelude.{◌≡◌, IfOk, map, slice_index_or};
 ghost use Rattle.ch_cells.specs.CellRef.{cell_of};
+ghost use Rattle.ch_cells.specs.declared.Kind.TheVariants as kind;
+ghost use Rattle.ch_fold_lines.specs.AnswerLines.{lines_in};
 ghost use Rattle.ch_fold_lines.specs.Shown as spec;
 
+use crate::answer_lines::AnswerLines;
 use crate::places::printed_kinds;
 use ch_cells::{Answer, Bytes, CellRef, Header, Kind, Listed, Memory, Row, copy_lent};
 use ch_flat::Sorted;
@@ -10,7 +13,7 @@ use ch_ranks::Ranks;
 use std::alloc::Global;
 
 /// The cell that a word of a column of this kind stands for.
-fn shown_cell(ranks: &Ranks, kind: Kind, word: i64) -> CellRef<'_>
+pub(crate) fn shown_cell(ranks: &Ranks, kind: Kind, word: i64) -> CellRef<'_>
     ensures { cell_of result ≡ spec.shown_cell ranks.now kind word }
 {
     match kind {
@@ -27,6 +30,16 @@ fn shown_cell(ranks: &Ranks, kind: Kind, word: i64) -> CellRef<'_>
     }
 }
 
+/// The kind at a place. Past the end it is that of numbers.
+pub(crate) fn kind_at(kinds: &[Kind], place: usize) -> Kind
+    ensures { result ≡ slice_index_or kinds.now place kind.Number }
+{
+    match kinds.get(place) {
+        Some(kind) => *kind,
+        None => Kind::Number,
+    }
+}
+
 /// The cells of a line.
 #[tactic(auto, using(crate::proofs::Lines::shown_more))]
 fn shown_line(alloc: Global, ranks: &Ranks, kinds: &[Kind], words: &[i64]) -> Result<Row, Memory>
@@ -34,10 +47,7 @@ fn shown_line(alloc: Global, ranks: &Ranks, kinds: &[Kind], words: &[i64]) -> Re
 {
     let mut row = Vec::with_capacity(alloc, words.len())?;
     for (i, word) in words.iter().enumerate() {
-        let kind = match kinds.get(i) {
-            Some(kind) => *kind,
-            None => Kind::Number,
-        };
+        let kind = kind_at(kinds, i);
         row.push_reserved(copy_lent(alloc, shown_cell(ranks, kind, *word))?);
     }
     Ok(Listed::from_vec(row))
@@ -83,34 +93,33 @@ fn copy_header(alloc: Global, header: &Header) -> Result<Header, Memory>
     Ok(Listed::from_vec(copy))
 }
 
-/// The answer that has the cells of some lines, in their order.
-pub fn answer_of_sorted(
+fn shown_rows(
     alloc: Global,
-    query: &Bound,
     ranks: &Ranks,
-    lines: &Sorted<'_>,
-) -> Result<Answer, Memory>
-    ensures header { IfOk result (λ a. a.header ≡ query.now.header) }
-    ensures rows { IfOk result (λ a. a.rows ≡ map (spec.shown_line ranks.now (spec.printed_kinds query.now)) lines.now) }
+    kinds: &[Kind],
+    lines: &AnswerLines<'_>,
+) -> Result<Listed<Row>, Memory>
+    ensures { IfOk result (λ rows. rows ≡ map (spec.shown_line ranks.now kinds.now) (lines_in lines.now)) }
 {
-    let kinds = printed_kinds(alloc, query)?;
-    let rows = shown_lines(alloc, ranks, kinds.as_slice(), lines)?;
-    let header = copy_header(alloc, &query.header)?;
-    Ok(Answer { header, rows })
+    match lines {
+        AnswerLines::Kept(rows) => shown_lines(alloc, ranks, kinds, &rows.sorted(alloc)?),
+        AnswerLines::Made(rows) => shown_lines(alloc, ranks, kinds, &rows.sorted(alloc)?),
+        AnswerLines::InOrder(lines) => shown_slices(alloc, ranks, kinds, lines.as_slice()),
+    }
 }
 
-/// The answer that has the cells of some lines, in their order.
-pub fn answer_of_slices(
+/// The answer that has the cells of the lines.
+pub fn answer_of_lines(
     alloc: Global,
     query: &Bound,
     ranks: &Ranks,
-    lines: &[&[i64]],
+    lines: &AnswerLines<'_>,
 ) -> Result<Answer, Memory>
     ensures header { IfOk result (λ a. a.header ≡ query.now.header) }
-    ensures rows { IfOk result (λ a. a.rows ≡ map (spec.shown_line ranks.now (spec.printed_kinds query.now)) (map (λ l. l.now) lines.now)) }
+    ensures rows { IfOk result (λ a. a.rows ≡ map (spec.shown_line ranks.now (spec.printed_kinds query.now)) (lines_in lines.now)) }
 {
     let kinds = printed_kinds(alloc, query)?;
-    let rows = shown_slices(alloc, ranks, kinds.as_slice(), lines)?;
+    let rows = shown_rows(alloc, ranks, kinds.as_slice(), lines)?;
     let header = copy_header(alloc, &query.header)?;
     Ok(Answer { header, rows })
 }
