@@ -6,14 +6,14 @@ ghost use Rattle.ch_cover.specs.Rows.{Row};
 ghost use Rattle.ch_words.specs.Readings.{NamesOnly};
 ghost use Rattle.ch_words.specs.Rows.{answer_over};
 ghost use Rattle.ch_flat.specs.Flat.{pick};
-ghost use Rattle.ch_fold_lines.specs.Rows.{RowFits, answer_read, reading};
+ghost use Rattle.ch_fold_lines.specs.AnswerLines.{TellAnswer};
+ghost use Rattle.ch_fold_lines.specs.Rows.{RowFits, reading};
 ghost use Rattle.ch_fold_orders.specs.Skyline as spec;
 ghost use Rattle.ch_fold_orders.specs.Skyline.{StandsForSkyline};
 
 use crate::front::{Axis, Front};
-use ch_cells::{Answer, Listed, Memory};
-use ch_flat::Rows;
-use ch_fold_lines::{answer_of_sorted, printed_places, word_place};
+use ch_cells::{Listed, Memory};
+use ch_fold_lines::{AnswerLines, printed_places, word_place};
 use ch_pred::{Bound, Dim};
 use ch_ranks::Ranks;
 use ch_word_cells::holds_on_row;
@@ -86,13 +86,12 @@ impl SkylineFold {
         self.front.add(self.alloc, self.axes.as_slice(), words)
     }
 
-    pub fn answer(&self, alloc: Global, query: &Bound, ranks: &Ranks) -> Result<Answer, Memory>
-        requires names { NamesOnly (IsCarried query.now) query.now }
-        ensures header { IfOk result (λ a. a.header ≡ query.now.header) }
-        ensures rows { (rows : List Row) → StandsForSkyline ranks.now query.now self.now rows → IfOk result (λ a. a.rows ≡ answer_read ranks.now query.now rows) }
+    /// The lines of the answer.
+    pub fn lines(&self, alloc: Global) -> Result<AnswerLines<'_>, Memory>
+        ensures { (texts : List (List ℕ)) (b : Query) (rows : List Row) → NamesOnly (IsCarried b) b → StandsForSkyline texts b self.now rows
+            → IfOk result (λ lines. TellAnswer texts b rows lines) }
     {
         let lines = self.front.lines(alloc, self.places.as_slice())?;
-        let sorted = lines.sorted(alloc)?;
-        answer_of_sorted(alloc, query, ranks, &sorted)
+        Ok(AnswerLines::Made(lines))
     }
 }

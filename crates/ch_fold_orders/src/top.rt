@@ -6,14 +6,15 @@ ghost use Rattle.ch_pred.specs.declared.pred.Col.{Col as Column};
 ghost use Rattle.ch_cover.specs.Rows.{Row};
 ghost use Rattle.ch_words.specs.Readings.{NamesOnly};
 ghost use Rattle.ch_flat.specs.Flat.{pick};
-ghost use Rattle.ch_fold_lines.specs.Rows.{RowFits, answer_read, held};
+ghost use Rattle.ch_fold_lines.specs.AnswerLines.{TellAnswer};
+ghost use Rattle.ch_fold_lines.specs.Rows.{RowFits, held};
 ghost use Rattle.ch_fold_orders.specs.Top as spec;
 ghost use Rattle.ch_fold_orders.specs.Top.{StandsForTop};
 
 use crate::firsts::Firsts;
-use ch_cells::{Answer, Listed, Memory};
+use ch_cells::{Listed, Memory};
 use ch_flat::word_at;
-use ch_fold_lines::{answer_of_slices, printed_places, word_place};
+use ch_fold_lines::{AnswerLines, printed_places, word_place};
 use ch_pred::{Bound, Col};
 use ch_ranks::Ranks;
 use ch_word_cells::holds_on_row;
@@ -119,13 +120,13 @@ impl TopFold {
         self.firsts.offer(row)
     }
 
-    pub fn answer(&self, alloc: Global, query: &Bound, ranks: &Ranks) -> Result<Answer, Memory>
-        requires names { NamesOnly (IsCarried query.now) query.now }
-        ensures header { IfOk result (λ a. a.header ≡ query.now.header) }
-        ensures rows { (rows : List Row) → StandsForTop ranks.now query.now self.now rows → IfOk result (λ a. a.rows ≡ answer_read ranks.now query.now rows) }
+    /// The lines of the answer.
+    pub fn lines(&self, alloc: Global) -> Result<AnswerLines<'_>, Memory>
+        ensures { (texts : List (List ℕ)) (b : Query) (rows : List Row) → NamesOnly (IsCarried b) b → StandsForTop texts b self.now rows
+            → IfOk result (λ lines. TellAnswer texts b rows lines) }
     {
         let rows = self.firsts.sorted(alloc)?;
         let lines = tails(alloc, rows.as_slice())?;
-        answer_of_slices(alloc, query, ranks, lines.as_slice())
+        Ok(AnswerLines::InOrder(lines))
     }
 }
