@@ -8,14 +8,15 @@ ghost use Rattle.ch_pred.specs.Sound.{IsCarried};
 ghost use Rattle.ch_pred.specs.declared.bound.Bound.{Bound as Query};
 ghost use Rattle.ch_pred.specs.declared.bound.Shape.TheVariants as shape;
 ghost use Rattle.ch_words.specs.Readings.{NamesOnly};
-ghost use Rattle.ch_fold_lines.specs.Rows.{RowFits, answer_read, held};
+ghost use Rattle.ch_fold_lines.specs.AnswerLines.{TellAnswer};
+ghost use Rattle.ch_fold_lines.specs.Rows.{RowFits, held};
 ghost use Rattle.ch_fold_groups.specs.Group.{StandsForGroup};
 
 use crate::bests::Bests;
 use crate::places::{group_places, key_places};
-use ch_cells::{Answer, Listed, Memory};
+use ch_cells::{Listed, Memory};
 use ch_flat::{picked, word_at};
-use ch_fold_lines::{answer_of_sorted, word_place};
+use ch_fold_lines::{AnswerLines, word_place};
 use ch_pred::{Bound, Col};
 use ch_ranks::Ranks;
 use ch_word_cells::holds_on_row;
@@ -89,13 +90,12 @@ impl GroupFold {
             .add(self.max, key, word_at(words, self.value_place))
     }
 
-    pub fn answer(&self, alloc: Global, query: &Bound, ranks: &Ranks) -> Result<Answer, Memory>
-        requires names { NamesOnly (IsCarried query.now) query.now }
-        ensures header { IfOk result (λ a. a.header ≡ query.now.header) }
-        ensures rows { (rows : List Row) → StandsForGroup ranks.now query.now self.now rows → IfOk result (λ a. a.rows ≡ answer_read ranks.now query.now rows) }
+    /// The lines of the answer.
+    pub fn lines(&self, alloc: Global) -> Result<AnswerLines<'_>, Memory>
+        ensures { (texts : List (List ℕ)) (b : Query) (rows : List Row) → NamesOnly (IsCarried b) b → StandsForGroup texts b self.now rows
+            → IfOk result (λ lines. TellAnswer texts b rows lines) }
     {
         let lines = self.bests.lines(alloc, self.printed_places.as_slice())?;
-        let sorted = lines.sorted(alloc)?;
-        answer_of_sorted(alloc, query, ranks, &sorted)
+        Ok(AnswerLines::Made(lines))
     }
 }
