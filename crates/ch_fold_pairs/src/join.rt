@@ -4,13 +4,14 @@ ghost use Rattle.ch_pred.specs.Sound.{IsSound};
 ghost use Rattle.ch_pred.specs.declared.bound.Bound.{Bound as Query};
 ghost use Rattle.ch_pred.specs.declared.bound.Shape.TheVariants as shape;
 ghost use Rattle.ch_words.specs.Rows.{side_seen};
-ghost use Rattle.ch_fold_lines.specs.Rows.{RowFits, answer_read};
+ghost use Rattle.ch_fold_lines.specs.AnswerLines.{TellAnswer};
+ghost use Rattle.ch_fold_lines.specs.Rows.{RowFits};
 
 use crate::lines::keyed_places;
 use crate::pairs::joined;
-use ch_cells::{Answer, Listed, Memory};
+use ch_cells::{Listed, Memory};
 use ch_flat::Rows;
-use ch_fold_lines::answer_of_sorted;
+use ch_fold_lines::AnswerLines;
 use ch_pred::{Bound, Col};
 use ch_ranks::Ranks;
 use ch_word_cells::carried_of;
@@ -71,16 +72,20 @@ impl JoinFold {
         Ok(())
     }
 
-    pub fn answer(&self, alloc: Global, query: &Bound, ranks: &Ranks) -> Result<Answer, Memory>
+    /// The lines of the answer: what the pairs print that hold.
+    pub fn lines(
+        &self,
+        alloc: Global,
+        query: &Bound,
+        ranks: &Ranks,
+    ) -> Result<AnswerLines<'_>, Memory>
         requires sound { IsSound query.now }
         requires stands { (rows : List Row) × StandsForJoin ranks.now query.now self.now rows }
-        ensures header { IfOk result (λ a. a.header ≡ query.now.header) }
-        ensures rows { (rows : List Row) → StandsForJoin ranks.now query.now self.now rows → IfOk result (λ a. a.rows ≡ answer_read ranks.now query.now rows) }
+        ensures { (rows : List Row) → StandsForJoin ranks.now query.now self.now rows → IfOk result (λ lines. TellAnswer ranks.now query.now rows lines) }
     {
         let left = self.left.sorted(alloc)?;
         let right = self.right.sorted(alloc)?;
         let lines = joined(alloc, query, ranks, &left, &right)?;
-        let sorted = lines.sorted(alloc)?;
-        answer_of_sorted(alloc, query, ranks, &sorted)
+        Ok(AnswerLines::Made(lines.into_rows()))
     }
 }

@@ -1,12 +1,9 @@
 ghost use Rattle.std.specs.Prelude.{◌≡◌, [], IfOk, OnOk, OnErr};
-ghost use Rattle.std.specs.Ordering.{int_cmp};
-ghost use Rattle.std.specs.Cmp.Lexicographic.{slice_cmp};
-ghost use Rattle.ch_lists.specs.Ordered.{ordered};
 ghost use Rattle.ch_flat.specs.Flat.{pick, with_row};
 ghost use Rattle.ch_fold_pairs.specs.Places as places;
 
 use ch_cells::{Listed, Memory};
-use ch_flat::{Rows, Sorted};
+use ch_flat::Rows;
 use ch_fold_lines::word_place;
 use ch_pred::{Bound, Col};
 use std::alloc::Global;
@@ -83,10 +80,10 @@ impl Lines {
         self.rows.push_picked(words, self.places.as_slice())
     }
 
-    /// The lines in ascending order.
-    pub(crate) fn sorted(&self, alloc: Global) -> Result<Sorted<'_>, Memory>
-        ensures { IfOk result (λ rows. rows ≡ ordered (slice_cmp int_cmp) self.now.rows) }
+    /// The lines alone.
+    pub(crate) fn into_rows(self) -> Rows
+        ensures { result ≡ self }
     {
-        self.rows.sorted(alloc)
+        self.rows
     }
 }

@@ -8,14 +8,15 @@ ghost use Rattle.ch_pred.specs.declared.bound.Bound.{Bound as Query};
 ghost use Rattle.ch_pred.specs.declared.bound.Shape.TheVariants as shape;
 ghost use Rattle.ch_words.specs.Readings.{NamesOnly};
 ghost use Rattle.ch_words.specs.Rows.{side_seen};
-ghost use Rattle.ch_fold_lines.specs.Rows.{RowFits, answer_read, held};
+ghost use Rattle.ch_fold_lines.specs.AnswerLines.{TellAnswer};
+ghost use Rattle.ch_fold_lines.specs.Rows.{RowFits, held};
 ghost use Rattle.ch_fold_pairs.specs.Lines.{matched_lines};
 
 use crate::lines::Lines;
 use crate::words::Words;
-use ch_cells::{Answer, Listed, Memory};
+use ch_cells::{Listed, Memory};
 use ch_flat::{Rows, Sorted, word_at};
-use ch_fold_lines::{answer_of_sorted, printed_places, word_place};
+use ch_fold_lines::{AnswerLines, printed_places, word_place};
 use ch_pred::{Bound, Col};
 use ch_ranks::Ranks;
 use ch_word_cells::holds_on_row;
@@ -102,14 +103,13 @@ impl SemiFold {
         self.outer.push_picked(words, self.places.as_slice())
     }
 
-    pub fn answer(&self, alloc: Global, query: &Bound, ranks: &Ranks) -> Result<Answer, Memory>
-        requires names { NamesOnly (IsCarried query.now) query.now }
-        ensures header { IfOk result (λ a. a.header ≡ query.now.header) }
-        ensures rows { (rows : List Row) → StandsForSemi ranks.now query.now self.now rows → IfOk result (λ a. a.rows ≡ answer_read ranks.now query.now rows) }
+    /// The lines of the answer.
+    pub fn lines(&self, alloc: Global) -> Result<AnswerLines<'_>, Memory>
+        ensures { (texts : List (List ℕ)) (b : Query) (rows : List Row) → NamesOnly (IsCarried b) b → StandsForSemi texts b self.now rows
+            → IfOk result (λ lines. TellAnswer texts b rows lines) }
     {
         let outer = self.outer.sorted(alloc)?;
         let lines = matched(alloc, self.width, &outer, &self.inner)?;
-        let sorted = lines.sorted(alloc)?;
-        answer_of_sorted(alloc, query, ranks, &sorted)
+        Ok(AnswerLines::Made(lines.into_rows()))
     }
 }
