@@ -2,7 +2,6 @@
 use Rattle.std.proofs.Common.{◌≡◌, ◌<◌, ℕ, zero, suc, true, List, [], ◌∷◌, ◌++◌, map, length, refl, ap, arith, inl, inr}
 use Rattle.std.specs.Prelude.{slice_index_or}
 use Rattle.ch_lists.specs.Members.{In}
-use Rattle.std.specs.List.{AllZip}
 use Rattle.ch_cover.specs.Rows.{Row}
 use Rattle.ch_finish.specs.Received.{AreRowsOf, IsRowOf}
 use Rattle.ch_finish.specs.declared.received.Arrived.{Arrived}

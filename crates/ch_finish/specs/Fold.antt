@@ -4,7 +4,7 @@ use Rattle.std.specs.Ordering.{int_cmp}
 use Rattle.std.specs.Cmp.Lexicographic.{slice_cmp}
 use Rattle.ch_lists.specs.Ordered.{once}
 use Rattle.ch_cover.specs.Rows.{Row}
-use Rattle.ch_pred.specs.Meaning.{at, at_each, different_keys}
+use Rattle.ch_pred.specs.Meaning.{at, at_each}
 use Rattle.ch_pred.specs.declared.bound.Bound.{Bound}
 use Rattle.ch_pred.specs.declared.bound.Shape.{Shape}
 use Rattle.ch_pred.specs.declared.bound.Shape.TheVariants as shape

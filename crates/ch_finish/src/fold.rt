@@ -2,12 +2,14 @@ ghost use Rattle.std.specs.Prelude.{◌≡◌, ℕ, ◌<◌, ◌^◌, ◌++◌, 
 ghost use Rattle.ch_cover.specs.Rows.{Row};
 ghost use Rattle.ch_pred.specs.Sound.{IsSound};
 ghost use Rattle.ch_pred.specs.declared.bound.Bound.{Bound as Query};
+ghost use Rattle.ch_print.specs.AnswerText.{text_of};
+ghost use Rattle.ch_fold_lines.specs.AnswerLines.{TellAnswer};
 ghost use Rattle.ch_fold_lines.specs.Rows.{RowFits, answer_read};
 ghost use Rattle.ch_finish.specs.Fold.{StandsFor, kept_size};
 
-use ch_cells::{Answer, Memory};
+use ch_cells::{Answer, Bytes, Memory};
 use ch_fold_groups::{GroupFold, HavingFold};
-use ch_fold_lines::{DistinctFold, FilterFold};
+use ch_fold_lines::{AnswerLines, DistinctFold, FilterFold, answer_of_lines, text_of_lines};
 use ch_fold_orders::{SkylineFold, TopFold};
 use ch_fold_pairs::{JoinFold, SemiFold};
 use ch_pred::{Bound, Shape};
@@ -151,6 +153,24 @@ impl Fold {
         }
     }
 
+    /// The lines of the answer over the rows that came so far.
+    fn lines(&self, alloc: Global, query: &Bound, ranks: &Ranks) -> Result<AnswerLines<'_>, Memory>
+        requires sound { IsSound query.now }
+        requires stands { (rows : List Row) × StandsFor ranks.now query.now self.now rows }
+        ensures { (rows : List Row) → StandsFor ranks.now query.now self.now rows → IfOk result (λ lines. TellAnswer ranks.now query.now rows lines) }
+    {
+        match &self.kept {
+            Kept::Filter(fold) => Ok(fold.lines()),
+            Kept::Distinct(fold) => fold.lines(alloc),
+            Kept::Top(fold) => fold.lines(alloc),
+            Kept::Group(fold) => fold.lines(alloc),
+            Kept::Having(fold) => fold.lines(alloc),
+            Kept::Join(fold) => fold.lines(alloc, query, ranks),
+            Kept::Skyline(fold) => fold.lines(alloc),
+            Kept::Semi(fold) => fold.lines(alloc),
+        }
+    }
+
     /// The answer over the rows that came so far. The fold stays as it is.
     pub fn answer(&self, alloc: Global, query: &Bound, ranks: &Ranks) -> Result<Answer, Memory>
         requires sound { IsSound query.now }
@@ -158,15 +178,28 @@ impl Fold {
         ensures header { IfOk result (λ a. a.header ≡ query.now.header) }
         ensures rows { (rows : List Row) → StandsFor ranks.now query.now self.now rows → IfOk result (λ a. a.rows ≡ answer_read ranks.now query.now rows) }
     {
-        match &self.kept {
-            Kept::Filter(fold) => fold.answer(alloc, query, ranks),
-            Kept::Distinct(fold) => fold.answer(alloc, query, ranks),
-            Kept::Top(fold) => fold.answer(alloc, query, ranks),
-            Kept::Group(fold) => fold.answer(alloc, query, ranks),
-            Kept::Having(fold) => fold.answer(alloc, query, ranks),
-            Kept::Join(fold) => fold.answer(alloc, query, ranks),
-            Kept::Skyline(fold) => fold.answer(alloc, query, ranks),
-            Kept::Semi(fold) => fold.answer(alloc, query, ranks),
-        }
+        let lines = self.lines(alloc, query, ranks)?;
+        answer_of_lines(alloc, query, ranks, &lines)
+    }
+
+    /// The text of that answer, written row by row: no row of cells is made.
+    pub fn text(&self, alloc: Global, query: &Bound, ranks: &Ranks) -> Result<Bytes, Memory>
+        requires sound { IsSound query.now }
+        requires stands { (rows : List Row) × StandsFor ranks.now query.now self.now rows }
+        ensures { (rows : List Row) → StandsFor ranks.now query.now self.now rows
+            → IfOk result (λ text. text ≡ text_of (record { header = query.now.header; rows = answer_read ranks.now query.now rows })) }
+    {
+        let lines = self.lines(alloc, query, ranks)?;
+        text_of_lines(alloc, query, ranks, &lines)
+    }
+
+    /// How many rows that answer has.
+    pub fn answer_len(&self, alloc: Global, query: &Bound, ranks: &Ranks) -> Result<usize, Memory>
+        requires sound { IsSound query.now }
+        requires stands { (rows : List Row) × StandsFor ranks.now query.now self.now rows }
+        ensures { (rows : List Row) → StandsFor ranks.now query.now self.now rows → IfOk result (λ len. len ≡ length (answer_read ranks.now query.now rows)) }
+    {
+        let lines = self.lines(alloc, query, ranks)?;
+        Ok(lines.len())
     }
 }
