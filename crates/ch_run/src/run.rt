@@ -3,6 +3,7 @@ ghost use Rattle.ch_ir.specs.declared.profile.Profile.{Profile};
 ghost use Rattle.ch_parts.specs.Scanned.{AreTables, parts_of};
 ghost use Rattle.ch_plan.specs.Kinds.{IsPlanOf};
 ghost use Rattle.ch_plan.specs.Needs.{greatest_length};
+ghost use Rattle.ch_print.specs.AnswerText.{text_of};
 ghost use Rattle.ch_protocol.specs.Fates.{event_fate};
 ghost use Rattle.ch_protocol.specs.Machine.{State, start, step, stopped, passes};
 ghost use Rattle.ch_protocol.specs.Received.{rows_arrived};
@@ -13,7 +14,7 @@ ghost use Rattle.ch_engine.specs.Stands.{HasEpoch};
 ghost use Rattle.ch_run.specs.Asked.{AreFew, MayBegin, begun_of, begun_over};
 ghost use Rattle.ch_run.specs.Runs.{Begun, IsRunOf, LeadsTo};
 
-use ch_cells::{Answer, Memory};
+use ch_cells::{Answer, Bytes, Memory};
 use ch_engine::{Engine, begin};
 use ch_plan::Planned;
 use ch_pred::Bound;
@@ -140,6 +141,25 @@ impl<'a> Run<'a> {
         self.engine
             .fold
             .answer(self.engine.alloc, self.engine.bound, self.engine.ranks)
+    }
+
+    /// The text of that answer, written row by row: no row of cells is made.
+    pub fn text(&self) -> Result<Bytes, Memory>
+        ensures { (q : Begun) (s : State) → IsRunOf q self.now s
+            → IfOk result (λ text. text ≡ text_of (record { header = q.query.header; rows = answer_arrived q.texts q.query (rows_arrived q.given.config (passes q.given.config) s.received) })) }
+    {
+        self.engine
+            .fold
+            .text(self.engine.alloc, self.engine.bound, self.engine.ranks)
+    }
+
+    /// How many rows that answer has.
+    pub fn answer_len(&self) -> Result<usize, Memory>
+        ensures { (q : Begun) (s : State) → IsRunOf q self.now s → IfOk result (λ len. len ≡ length (answer_arrived q.texts q.query (rows_arrived q.given.config (passes q.given.config) s.received))) }
+    {
+        self.engine
+            .fold
+            .answer_len(self.engine.alloc, self.engine.bound, self.engine.ranks)
     }
 
     /// The switch as it stands.
