@@ -1,10 +1,9 @@
 -- A run that query, profile and tables say is that of a plan of the query: nothing is left to choose.
-use Rattle.std.proofs.Common.{◌≡◌, ◌∙◌, ap, sym, refl, ℕ, ◌==◌, Bool, false, List, length, filter, map, ℤ}
+use Rattle.std.proofs.Common.{◌≡◌, ◌∙◌, ap, sym, refl, ℕ, ◌==◌, false, List, length, filter, map, ℤ}
 use Rattle.std.proofs.lemmas.List.{length-map}
 use Rattle.ch_bind.specs.Binding.{plain_bound}
 use Rattle.ch_cells.specs.declared.Cell.{Cell}
-use Rattle.ch_cells.specs.declared.Kind.{Kind}
-use Rattle.ch_cover.specs.Rows.{Policy, Row}
+use Rattle.ch_cover.specs.Rows.{Row}
 use Rattle.ch_parts.specs.Scanned as scanned
 use Rattle.ch_parts.specs.Scanned.{parts_by}
 use Rattle.ch_plan.specs.Kinds.{IsPlanOf, kind_policy, kind_times}
@@ -12,13 +11,12 @@ use Rattle.ch_plan.specs.Policy.{passes_of, policy_of}
 use Rattle.ch_plan.specs.declared.kind.PlanKind.{PlanKind}
 use Rattle.ch_pred.specs.Gate.{part_holds}
 use Rattle.ch_pred.specs.Holds.{holds_of}
-use Rattle.ch_pred.specs.Meaning.{Asked, answer_to}
+use Rattle.ch_pred.specs.Meaning.{answer_to}
 use Rattle.ch_pred.specs.Plain.{plain_of}
 use Rattle.ch_pred.specs.Values.{View, words}
 use Rattle.ch_pred.specs.declared.bound.Bound.{Bound}
 use Rattle.ch_pred.specs.declared.bound.Shape.{Shape}
 use Rattle.ch_pred.specs.declared.bound.Shape.TheVariants as shape
-use Rattle.ch_protocol.specs.Machine.{Config}
 use Rattle.ch_protocol.specs.Packets.{Tuple}
 use Rattle.ch_run.specs.Asked as run
 use Rattle.ch_survival.specs.Asked.{answer_arrived, asked_gate, asked_reading}

@@ -1,5 +1,5 @@
 -- What a run writes is what query, schedule and tables say.
-use Rattle.std.proofs.Common.{◌≡◌, ◌∙◌, ap, sym, refl, subst, ℕ, ◌<◌, ◌≤◌, ◌^◌, Bool, true, false, List, [], length, map, arith, inl, inr, ℤ}
+use Rattle.std.proofs.Common.{◌≡◌, ◌∙◌, ap, sym, refl, subst, ℕ, ◌<◌, ◌≤◌, ◌^◌, true, List, [], length, map, arith, inl, inr, ℤ}
 use Rattle.std.specs.Prelude.{Result, Ok, Err}
 use Rattle.std.specs.Result.{IfOk}
 use Rattle.std.proofs.lemmas.Bool.{cases_Bool}
@@ -7,7 +7,7 @@ use Rattle.std.proofs.lemmas.List.{length-map}
 use Rattle.ch_asked.specs.Texts.{asked_texts, dictionary_of}
 use Rattle.ch_bind.specs.Binding.{plain_bound}
 use Rattle.ch_cells.specs.declared.Cell.{Cell}
-use Rattle.ch_cells.specs.declared.outcome.Answer.{Answer}
+use Rattle.ch_cells.specs.declared.outcome.Counts.{Counts}
 use Rattle.ch_cells.specs.declared.outcome.OpenFlow.{OpenFlow}
 use Rattle.ch_command.specs.declared.outcome.Ending.TheVariants as ending
 use Rattle.ch_command.specs.declared.outcome.Outcome.{Outcome}
@@ -98,13 +98,19 @@ module _ (inputs : Inputs) (are : AreAsked inputs) (k : PlanKind) (is : IsPlanOf
 
 -- what is said of a run where it stands is what is written
 
-pub open_said : (q : Begun) (s : State) (o : run.Outcome) (a : Answer) (flows : List OpenFlow) (partial : ℕ) → seen.Open flows ≡ outcome_seen o → a.rows ≡ arrived_in q s → partial ≡ length a.rows
+pub open_said : (q : Begun) (s : State) (o : run.Outcome) (flows : List OpenFlow) (partial : ℕ) → seen.Open flows ≡ outcome_seen o → partial ≡ length (arrived_in q s)
     → ◌≡◌ {A = Outcome} (record { ending = ending.Open; out = []; err = report flows partial }) (said_of_run q s o)
-open_said q s (run.Outcome.Done n) a flows partial e r n_is = absurd cc
-open_said q s (run.Outcome.Open fs) a flows partial e r n_is =
+open_said q s (run.Outcome.Done n) flows partial e many = absurd cc
+open_said q s (run.Outcome.Open fs) flows partial e many =
     let same : flows ≡ map flow_seen fs = cc in
-    let many : partial ≡ length (arrived_in q s) = n_is ∙ ap (λ rows. length rows) r in
     λ i. record { ending = ending.Open; out = []; err = report (same i) (many i) }
+
+pub done_said : (q : Begun) (s : State) (o : run.Outcome) (out : List ℕ) (counts : Counts) → seen.Done counts ≡ outcome_seen o → out ≡ text_of (record { header = q.query.header; rows = arrived_in q s })
+    → ◌≡◌ {A = Outcome} (record { ending = ending.Done; out = out; err = counts_line counts }) (said_of_run q s o)
+done_said q s (run.Outcome.Done n) out counts e text =
+    let same : counts ≡ counts_seen n = cc in
+    λ i. record { ending = ending.Done; out = text i; err = counts_line (same i) }
+done_said q s (run.Outcome.Open fs) out counts e text = absurd cc
 
 module _ (inputs : Inputs) (k : PlanKind) where
   -- what a run of these texts and tables says behind the schedule

@@ -1,6 +1,6 @@
 -- The run of a query over its tables: its workers, its switch and its schedule. It is all said of the query, the profile, the
 -- schedule and the tables, and of nothing that runs.
-use Rattle.std.specs.Prelude.{ℕ, ◌==◌, Bool, false, List, [], length, map, ℤ}
+use Rattle.std.specs.Prelude.{ℕ, ◌==◌, false, List, length, ℤ}
 use Rattle.ch_asked.specs.Texts.{dictionary_of, texts_asked}
 use Rattle.ch_bind.specs.Binding.{PlainBound}
 use Rattle.ch_cells.specs.declared.Cell.{Cell}

@@ -1,5 +1,5 @@
 -- What is written of a run.
-use Rattle.std.specs.Prelude.{ℕ, List, [], length, map}
+use Rattle.std.specs.Prelude.{List, [], length, map}
 use Rattle.ch_cells.specs.declared.Cell.{Cell}
 use Rattle.ch_command.specs.declared.outcome.Ending.TheVariants as ending
 use Rattle.ch_command.specs.declared.outcome.Outcome.{Outcome}

@@ -1,6 +1,5 @@
 ghost use Rattle.std.specs.Prelude.{◌≡◌, [], IfOk};
 ghost use Rattle.ch_plan.specs.Kinds.{IsPlanOf};
-ghost use Rattle.ch_print.specs.AnswerText.{text_of};
 ghost use Rattle.ch_print.specs.RunTexts.{counts_line, report};
 ghost use Rattle.ch_protocol.specs.Machine.{State};
 ghost use Rattle.ch_run.specs.Runs.{Begun, IsRunOf};
@@ -9,19 +8,18 @@ ghost use Rattle.cheetah_run.specs.Asking.{AreAsked};
 ghost use Rattle.cheetah_run.specs.Saying.{said_by_run, said_in};
 
 use ch_asked::rank_texts;
-use ch_cells::{Answer, Bytes, Counts, Memory, OpenFlow};
+use ch_cells::{Bytes, Counts, Memory, OpenFlow};
 use ch_command::{Ending, Outcome};
 use ch_plan::Planned;
-use ch_print::{answer_text, counts_text, report_text};
+use ch_print::{counts_text, report_text};
 use ch_run::{Outcome as RunOutcome, Run};
 use cheetah_inputs::Inputs;
 use std::alloc::Global;
 
-/// The answer, and the counts of the run.
-fn say_done(alloc: Global, answer: &Answer, counts: &Counts) -> Result<Outcome, Memory>
-    ensures { IfOk result (λ said. said ≡ record { ending = Ending.Done; out = text_of answer.now; err = counts_line counts.now }) }
+/// The answer's text, and the counts of the run.
+fn say_done(alloc: Global, out: Bytes, counts: &Counts) -> Result<Outcome, Memory>
+    ensures { IfOk result (λ said. said ≡ record { ending = Ending.Done; out = out; err = counts_line counts.now }) }
 {
-    let out = answer_text(alloc, answer)?;
     let err = counts_text(alloc, counts)?;
     Ok(Outcome {
         ending: Ending::Done,
@@ -46,11 +44,10 @@ fn say_open(alloc: Global, flows: &[OpenFlow], partial: usize) -> Result<Outcome
 fn say(alloc: Global, run: &Run<'_>) -> Result<Outcome, Memory>
     ensures { (q : Begun) (s : State) → IsRunOf q run.now s → IfOk result (λ said. said ≡ said_in q s) }
 {
-    let answer = run.answer()?;
     let outcome = run.outcome()?;
     match &outcome {
-        RunOutcome::Done(counts) => say_done(alloc, &answer, counts),
-        RunOutcome::Open(flows) => say_open(alloc, flows.as_slice(), answer.rows.len()),
+        RunOutcome::Done(counts) => say_done(alloc, run.text()?, counts),
+        RunOutcome::Open(flows) => say_open(alloc, flows.as_slice(), run.answer_len()?),
     }
 }
 

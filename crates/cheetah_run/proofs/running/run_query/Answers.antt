@@ -1,4 +1,4 @@
-use Rattle.std.proofs.Common.{◌≡◌, ◌∙◌, ◌<◌, ap, arith, length, subst, sym, ℕ, List}
+use Rattle.std.proofs.Common.{◌∙◌, ap, arith, length, subst, sym, List}
 use Rattle.ch_asked.specs.Texts.{asked_texts, dictionary_of}
 use Rattle.ch_ir.specs.declared.setting.Setting.TheVariants.{Window}
 use Rattle.ch_parts.specs.Scanned.{AreTables, parts_of}
