@@ -17,7 +17,7 @@ use Rattle.ch_pipe.specs.Installed.{Installed}
 use Rattle.ch_plan.specs.declared.planned.Planned.{Planned}
 use Rattle.ch_pred.specs.declared.bound.Bound.{Bound}
 use Rattle.ch_protocol.specs.Drain.{drain}
-use Rattle.ch_protocol.specs.Machine.{Config, rows_in, start, stopped, workers}
+use Rattle.ch_protocol.specs.Machine.{Config, rows_in, start, workers}
 use Rattle.ch_protocol_laws.proofs.Drained.{drains_after}
 use Rattle.ch_protocol_laws.proofs.Reached.{reached_ready}
 use Rattle.ch_run.specs.Asked.{MayBegin, begun_over, config_of}

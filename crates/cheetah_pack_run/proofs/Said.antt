@@ -1,6 +1,5 @@
 -- What a run says that has stopped.
-use Rattle.std.proofs.Common.{◌≡◌, true, List}
-use Rattle.ch_cells.specs.declared.outcome.Answer.{Answer}
+use Rattle.std.proofs.Common.{◌≡◌, ℕ, true, List}
 use Rattle.ch_cells.specs.declared.outcome.Counts.{Counts}
 use Rattle.ch_cells.specs.declared.outcome.OpenFlow.{OpenFlow}
 use Rattle.ch_command.specs.declared.outcome.Ending.TheVariants as ending
@@ -14,12 +13,12 @@ use Rattle.ch_run.specs.Runs.{Begun}
 use Rattle.ch_run.specs.declared.outcome.Outcome.TheVariants as seen
 use Rattle.cheetah_pack_meaning.specs.Saying.{arrived_in, said_of_run}
 
-pub done_said : (q : Begun) (s : State) (o : run.Outcome) (a : Answer) (counts : Counts) → seen.Done counts ≡ outcome_seen o → a.header ≡ q.query.header → a.rows ≡ arrived_in q s
-    → ◌≡◌ {A = Outcome} (record { ending = ending.Done; out = text_of a; err = counts_line counts }) (said_of_run q s o)
-done_said q s (run.Outcome.Done n) a counts e h r =
+pub done_said : (q : Begun) (s : State) (o : run.Outcome) (out : List ℕ) (counts : Counts) → seen.Done counts ≡ outcome_seen o → out ≡ text_of (record { header = q.query.header; rows = arrived_in q s })
+    → ◌≡◌ {A = Outcome} (record { ending = ending.Done; out = out; err = counts_line counts }) (said_of_run q s o)
+done_said q s (run.Outcome.Done n) out counts e text =
     let same : counts ≡ counts_seen n = cc in
-    λ i. record { ending = ending.Done; out = text_of (record { header = h i; rows = r i }); err = counts_line (same i) }
-done_said q s (run.Outcome.Open flows) a counts e h r = absurd cc
+    λ i. record { ending = ending.Done; out = text i; err = counts_line (same i) }
+done_said q s (run.Outcome.Open flows) out counts e text = absurd cc
 
 -- a run that has stopped isn't open
 pub not_open : (q : Begun) (s : State) (flows : List OpenFlow) → stopped q.given.config s ≡ true → seen.Open flows ≡ outcome_seen (run.outcome q.given.config s) → ⊥

@@ -17,7 +17,7 @@ use ch_pack::Packed;
 use ch_pipe::Pipe;
 use ch_plan::Planned;
 use ch_pred::Bound;
-use ch_print::{answer_text, counts_text};
+use ch_print::counts_text;
 use ch_ranks::Ranks;
 use ch_run::{Outcome as RunOutcome, Run};
 use ch_sources::new_parts;
@@ -30,11 +30,10 @@ fn say_done(alloc: Global, run: &Run<'_>) -> Result<Outcome, Memory>
     requires { HasStopped run.now }
     ensures { (q : Begun) (s : State) → IsRunOf q run.now s → IfOk result (λ said. said ≡ said_in q s) }
 {
-    let answer = run.answer()?;
     let outcome = run.outcome()?;
     match &outcome {
         RunOutcome::Done(counts) => {
-            let out = answer_text(alloc, &answer)?;
+            let out = run.text()?;
             let err = counts_text(alloc, counts)?;
             Ok(Outcome {
                 ending: Ending::Done,

@@ -11,4 +11,4 @@ unreachable-requires c =
 pub returns : goal.returns
 returns c q s r =
     let e = sym c.in-Done.is ∙ c.in_ok-outcome.ensures q s r in
-    rw (c.in_ok-out-in-Done.ensures, c.in_ok-err-in-Done.ensures) (done_said q s (outcome q.given.config s) c.in_ok-answer.answer _ e (c.in_ok-answer.ensures.header q s r) (c.in_ok-answer.ensures.rows q s r))
+    rw c.in_ok-err-in-Done.ensures (done_said q s (outcome q.given.config s) c.in_ok-out-in-Done.out _ e (c.in_ok-out-in-Done.ensures q s r))
