@@ -1,111 +1,55 @@
+//! Shelf and sinks in memory.
+//!
+//! - `lend CALLS`: what the row's shelf lends in turn, with `;` between two calls, each the name of a file and the most bytes;
+//! - `put PIECES`: what stands on out before and behind each piece that is put there in turn, with `;` between two, and whether
+//!   it was put;
+//! - `memory NAME`: how a run over that file ends, where there are no files.
 ghost use Rattle.std.specs.Prelude.{◌≡◌, ◌≢◌, ◌⊎◌};
 ghost use Rattle.ch_outside.specs.Faults.{Rose, StaysReliable};
 
+use crate::row::{Row, cut};
 use ch_cells::Bytes;
-use ch_outside::{DiskShelf, MapShelf, Shelf, ShelfError, Sink, SinkError, StdSink, VecSink};
+use ch_outside::{MapShelf, Shelf, ShelfError, Sink, SinkError, VecSink};
 use std::alloc::Global;
-use std::fs;
-use std::test::Fail;
+use std::str;
 
-fn shelf_of(alloc: Global, files: &[(&str, &[u8])], fail: &[u32]) -> Result<MapShelf, Fail> {
-    let mut named = Vec::new(alloc);
-    for (name, bytes) in files {
-        named.push((
-            String::from_str(alloc, name)?,
-            Bytes::from_slice(alloc, bytes)?,
-        ))?;
-    }
-    Ok(MapShelf::new(named, Vec::from_slice(alloc, fail)?))
-}
-
-const FILES: &[(&str, &[u8])] = &[("a", b"first"), ("b", b""), ("a", b"second"), ("", b"x")];
-
-/// Calls of a shelf with these files, of which the second and the eighth fail.
-const READS: &[(&str, usize, Result<&[u8], ShelfError>)] = &[
-    ("a", 5, Ok(b"first")),
-    ("a", 5, Err(ShelfError::Failed)),
-    ("a", 4, Err(ShelfError::TooLarge { taken: 5 })),
-    ("a", 0, Err(ShelfError::TooLarge { taken: 1 })),
-    ("b", 0, Ok(b"")),
-    ("c", 9, Err(ShelfError::Missing)),
-    ("", 1, Ok(b"x")),
-    ("c", 9, Err(ShelfError::Failed)),
-    ("a", 9, Ok(b"first")),
-];
-
-#[test]
-fn files_in_memory_are_read_and_fail_where_told(rt: HostRuntime) -> Result<(), Fail> {
-    let alloc = rt.alloc();
-    let mut shelf = shelf_of(alloc, FILES, &[1, 7, 1, 4_294_967_295])?;
-    for (name, limit, wanted) in READS {
-        let answer = shelf.read_all(alloc, name, *limit);
-        match (&answer, wanted) {
-            (Ok(bytes), Ok(wanted)) => assert_eq!(rt; bytes.as_slice(), *wanted, "{name}"),
-            (Err(error), Err(wanted)) => assert_eq!(rt; *error, *wanted, "{name}"),
-            _ => assert!(rt; false, "{name}"),
+/// What a shelf lends, as a line.
+pub(crate) fn lent_text(alloc: Global, lent: Result<Bytes, ShelfError>) -> anyhow::Result<String> {
+    match lent {
+        Ok(bytes) => {
+            let text = str::from_utf8(bytes.as_slice())?;
+            Ok(format!(in alloc; "lent {text}\n")?)
         }
+        Err(error) => Ok(format!(in alloc; "{error:?}\n")?),
     }
+}
+
+pub(crate) fn lent(alloc: Global, row: &Row, said: &str) -> anyhow::Result<String> {
+    let mut shelf = row.to_shelf(alloc)?;
+    let mut lines = String::new(alloc);
+    for call in said.split(';') {
+        let (name, most) = cut(call, " ");
+        let bytes = shelf.read_all(alloc, name, most.parse::<usize>()?);
+        lines.push_str(lent_text(alloc, bytes)?.as_str())?;
+    }
+    Ok(lines)
+}
+
+fn push_put(alloc: Global, lines: &mut String, sink: &VecSink, put: bool) -> anyhow::Result<()> {
+    let there = str::from_utf8(sink.bytes())?;
+    lines.push_str(format!(in alloc; "{put} {there}.\n")?.as_str())?;
     Ok(())
 }
 
-/// Calls of a sink, of which the first and the third fail: the piece, whether it was put, and what stands written then.
-const PUTS: &[(&[u8], bool, &[u8])] = &[
-    (b"lost", false, b""),
-    (b"ab", true, b"ab"),
-    (b"", false, b"ab"),
-    (b"", true, b"ab"),
-    (b"c", true, b"abc"),
-];
-
-#[test]
-fn pieces_in_memory_are_put_and_fail_where_told(rt: HostRuntime) -> Result<(), Fail> {
-    let alloc = rt.alloc();
-    let mut sink = VecSink::new(alloc, Vec::from_slice(alloc, &[2, 0])?);
-    assert_eq!(rt; sink.bytes(), b"".as_slice());
-    for (piece, put, written) in PUTS {
-        assert_eq!(rt; sink.put(piece).is_ok(), *put, "{piece:?}");
-        assert_eq!(rt; sink.bytes(), *written, "{piece:?}");
+pub(crate) fn put(alloc: Global, row: &Row, said: &str) -> anyhow::Result<String> {
+    let mut sink = row.to_out(alloc)?;
+    let mut lines = String::new(alloc);
+    push_put(alloc, &mut lines, &sink, true)?;
+    for piece in said.split(';') {
+        let put = sink.put(piece.as_bytes()).is_ok();
+        push_put(alloc, &mut lines, &sink, put)?;
     }
-    Ok(())
-}
-
-fn failure(answer: Result<Bytes, ShelfError>) -> Option<ShelfError> {
-    match answer {
-        Ok(_) => None,
-        Err(error) => Some(error),
-    }
-}
-
-#[test]
-fn files_of_the_system_are_read(rt: HostRuntime) -> Result<(), Fail> {
-    let alloc = rt.alloc();
-    let name = format!(in alloc; "/tmp/ch_outside-{}", std::process::id(rt.process()))?;
-    let text = vec![in alloc; b'x'; 100_000]?;
-    fs::write(&rt, name.as_str(), text.as_slice())?;
-    let mut shelf = DiskShelf::new(&rt);
-    match shelf.read_all(alloc, name.as_str(), 100_000) {
-        Ok(bytes) => assert!(rt; bytes.as_slice() == text.as_slice()),
-        Err(_) => assert!(rt; false),
-    }
-    let large = failure(shelf.read_all(alloc, name.as_str(), 99_999));
-    assert_eq!(rt; large, Some(ShelfError::TooLarge { taken: 100_000 }));
-    fs::remove_file(&rt, name.as_str())?;
-    let missing = failure(shelf.read_all(alloc, name.as_str(), 100_000));
-    assert_eq!(rt; missing, Some(ShelfError::Missing));
-    let folder = failure(shelf.read_all(alloc, "/tmp", 100_000));
-    assert_eq!(rt; folder, Some(ShelfError::Failed));
-    let empty = failure(shelf.read_all(alloc, "/dev/null", 0));
-    assert_eq!(rt; empty, None);
-    Ok(())
-}
-
-#[test]
-fn standard_streams_take_a_piece(rt: HostRuntime) {
-    let mut out = StdSink::out(&rt);
-    let mut err = StdSink::err(&rt);
-    assert_eq!(rt; out.put(b"to the standard output\n"), Ok(()));
-    assert_eq!(rt; err.put(b"to the standard error\n"), Ok(()));
-    assert_eq!(rt; err.put(b""), Ok(()));
+    Ok(lines)
 }
 
 /// How a run over one file ends.
@@ -148,11 +92,7 @@ fn copy_in_memory(alloc: Global, name: &str, files: Vec<(String, Bytes)>) -> End
     copy_file(alloc, name, &mut shelf, &mut out)
 }
 
-#[test]
-fn a_run_in_memory_has_no_fault(rt: HostRuntime) {
-    let alloc = rt.alloc();
-    assert_eq!(rt;
-        copy_in_memory(alloc, "a", Vec::new(alloc)),
-        Ending::Refused
-    );
+pub(crate) fn memory(alloc: Global, said: &str) -> anyhow::Result<String> {
+    let ending = copy_in_memory(alloc, said, Vec::new(alloc));
+    Ok(format!(in alloc; "{ending:?}\n")?)
 }

@@ -1,94 +1,32 @@
+//! Words, and what they ask for.
+//!
+//! - `cheetah WORDS`: the query's text, the files of profile and schedule, whether the plan is printed, and the parts;
+//! - `pack WORDS`: the files of the queries and of the profile, and the parts;
+//! - `audit WORDS`: the task, the files of the query, of schedule or trace and of the profile, and the parts;
+//! - `many COUNT COMMAND WORDS`: whether that command takes these words with so many behind them that each name a part.
+use crate::row::{cut, words_of};
 use cheetah_audit_words::{Errand, Task, errand_in};
 use cheetah_words::{Asked, TableWord};
 use std::alloc::Global;
-use std::process::Abort;
-use std::test::Fail;
 
 /// Whose words they are.
 #[derive(Clone, Copy)]
-enum Command {
+pub(crate) enum Command {
     Cheetah,
     Pack,
     Audit,
 }
 
-/// Words of `cheetah`, with a bar between two of them, and what they ask for: the query's text, the files of profile and
-/// schedule, whether the plan is printed, and the parts; or `refused`.
-const OF_CHEETAH: &[(&str, &str)] = &[
-    ("cheetah|--query|q|t=f", "q - - false t:f"),
-    (
-        "cheetah|--profile|p|--query|q|--schedule|s|--plan|t=f|u=g=h|t=i",
-        "q p s true t:f u:g=h t:i",
-    ),
-    ("cheetah|t=f|--query=q|u=g|--plan", "q - - true t:f u:g"),
-    ("cheetah|--query|q|--|t=f", "q - - false t:f"),
-    ("", "refused"),
-    ("cheetah", "refused"),
-    ("cheetah|--query|q", "refused"),
-    ("cheetah|t=f", "refused"),
-    ("cheetah|--query|q|--query|q|t=f", "refused"),
-    ("cheetah|--query|q|--profile|t=f", "refused"),
-    ("cheetah|--query|q|--plan=t|t=f", "refused"),
-    ("cheetah|--query|q|--window|3|t=f", "refused"),
-    ("cheetah|--help", "refused"),
-    ("cheetah|--version", "refused"),
-    ("cheetah|--query|q|t", "refused"),
-    ("cheetah|--query|q|t=f|=f", "refused"),
-    ("cheetah|--query|q|t=f|u=", "refused"),
-];
-
-/// Those of `cheetah_pack`: the files of the queries and of the profile, and the parts.
-const OF_PACK: &[(&str, &str)] = &[
-    ("cheetah_pack|q|p|t=f", "q p t:f"),
-    ("cheetah_pack|q|-|t=f|u=g=h|t=i", "q - t:f u:g=h t:i"),
-    ("a|-|--|-=-", "- -- -:-"),
-    ("", "refused"),
-    ("cheetah_pack", "refused"),
-    ("cheetah_pack|q|p", "refused"),
-    ("cheetah_pack|q|t=f", "refused"),
-    ("cheetah_pack|q|p|t", "refused"),
-    ("cheetah_pack|q|p|t=f|=f", "refused"),
-    ("cheetah_pack|q|p|t=f|u=", "refused"),
-];
-
-/// Those of `cheetah_audit`: the task, the files of the query, of schedule or trace and of the profile, and the parts.
-const OF_AUDIT: &[(&str, &str)] = &[
-    ("cheetah_audit|write|q|s|p|t=f", "write q s p t:f"),
-    (
-        "cheetah_audit|check|q|s|-|t=f|u=g=h|t=i",
-        "check q s - t:f u:g=h t:i",
-    ),
-    ("a|write|write|-|--|-=-", "write write - -- -:-"),
-    ("", "refused"),
-    ("cheetah_audit", "refused"),
-    ("cheetah_audit|write|q|s|p", "refused"),
-    ("cheetah_audit|read|q|s|p|t=f", "refused"),
-    ("cheetah_audit|Write|q|s|p|t=f", "refused"),
-    ("cheetah_audit|check|q|s|p|t", "refused"),
-    ("cheetah_audit|check|q|s|p|t=f|=f", "refused"),
-    ("cheetah_audit|check|q|s|p|t=f|u=", "refused"),
-    ("cheetah_audit|q|write|s|p|t=f", "refused"),
-];
-
-fn words_of(alloc: Global, text: &str) -> Result<Vec<String>, Fail> {
-    let mut words = Vec::new(alloc);
-    for word in text.split('|') {
-        if !word.is_empty() {
-            words.push(String::from_str(alloc, word)?)?;
-        }
-    }
-    Ok(words)
-}
-
-fn push_parts(alloc: Global, text: &mut String, parts: &[TableWord<'_>]) -> Result<(), Fail> {
+fn push_parts(alloc: Global, text: &mut String, parts: &[TableWord<'_>]) -> anyhow::Result<()> {
     for part in parts {
         let (name, file) = (part.name, part.file);
         text.push_str(format!(in alloc; " {name}:{file}")?.as_str())?;
     }
+    text.push('\n')?;
     Ok(())
 }
 
-fn of_cheetah(alloc: Global, asked: &Asked<'_>) -> Result<String, Fail> {
+fn of_cheetah(alloc: Global, asked: &Asked<'_>) -> anyhow::Result<String> {
     let query = asked.query;
     let profile = asked.profile.unwrap_or("-");
     let schedule = asked.schedule.unwrap_or("-");
@@ -98,7 +36,7 @@ fn of_cheetah(alloc: Global, asked: &Asked<'_>) -> Result<String, Fail> {
     Ok(text)
 }
 
-fn of_pack(alloc: Global, asked: &Asked<'_>) -> Result<String, Fail> {
+fn of_pack(alloc: Global, asked: &Asked<'_>) -> anyhow::Result<String> {
     let queries = asked.query;
     let profile = asked.profile.unwrap_or("-");
     let mut text = format!(in alloc; "{queries} {profile}")?;
@@ -106,7 +44,7 @@ fn of_pack(alloc: Global, asked: &Asked<'_>) -> Result<String, Fail> {
     Ok(text)
 }
 
-fn of_audit(alloc: Global, errand: &Errand<'_>) -> Result<String, Fail> {
+fn of_audit(alloc: Global, errand: &Errand<'_>) -> anyhow::Result<String> {
     let task = match errand.task {
         Task::Write => "write",
         Task::Check => "check",
@@ -120,8 +58,8 @@ fn of_audit(alloc: Global, errand: &Errand<'_>) -> Result<String, Fail> {
 }
 
 /// What the words ask for.
-fn asked(alloc: Global, command: Command, words: &[String]) -> Result<String, Fail> {
-    let refused = String::from_str(alloc, "refused")?;
+fn asked(alloc: Global, command: Command, words: &[String]) -> anyhow::Result<String> {
+    let refused = String::from_str(alloc, "refused\n")?;
     match command {
         Command::Cheetah => match cheetah_words::asked_in(alloc, words) {
             Ok(asked) => of_cheetah(alloc, &asked),
@@ -138,52 +76,27 @@ fn asked(alloc: Global, command: Command, words: &[String]) -> Result<String, Fa
     }
 }
 
-fn check(
-    rt: &(impl Abort + AllocGlobal),
-    command: Command,
-    rows: &[(&str, &str)],
-) -> Result<(), Fail> {
-    for (text, expected) in rows {
-        let words = words_of(rt.alloc(), text)?;
-        let found = asked(rt.alloc(), command, words.as_slice())?;
-        assert_eq!(rt; found.as_str(), *expected, "{text}");
+pub(crate) fn words(alloc: Global, command: Command, said: &str) -> anyhow::Result<String> {
+    let words = words_of(alloc, said)?;
+    asked(alloc, command, words.as_slice())
+}
+
+fn command_of(name: &str) -> Command {
+    match name {
+        "cheetah" => Command::Cheetah,
+        "pack" => Command::Pack,
+        _ => Command::Audit,
     }
-    Ok(())
 }
 
-#[test]
-fn words_of_cheetah_ask(rt: HostRuntime) -> Result<(), Fail> {
-    check(&rt, Command::Cheetah, OF_CHEETAH)
-}
-
-#[test]
-fn words_of_pack_ask(rt: HostRuntime) -> Result<(), Fail> {
-    check(&rt, Command::Pack, OF_PACK)
-}
-
-#[test]
-fn words_of_audit_ask(rt: HostRuntime) -> Result<(), Fail> {
-    check(&rt, Command::Audit, OF_AUDIT)
-}
-
-/// Whether these words are taken with so many behind them that each name a part.
-fn takes(alloc: Global, command: Command, text: &str, count: usize) -> Result<bool, Fail> {
-    let mut words = words_of(alloc, text)?;
-    for _ in 0..count {
+pub(crate) fn many(alloc: Global, said: &str) -> anyhow::Result<String> {
+    let (count, said) = cut(said, " ");
+    let (name, said) = cut(said, " ");
+    let mut words = words_of(alloc, said)?;
+    for _ in 0..count.parse::<u32>()? {
         words.push(String::from_str(alloc, "t=f")?)?;
     }
-    Ok(asked(alloc, command, words.as_slice())?.as_str() != "refused")
-}
-
-#[test]
-fn at_most_64_tables_are_taken(rt: HostRuntime) -> Result<(), Fail> {
-    for (command, text) in [
-        (Command::Cheetah, "cheetah|--query|q"),
-        (Command::Pack, "cheetah_pack|q|-"),
-        (Command::Audit, "cheetah_audit|check|q|s|-"),
-    ] {
-        assert_eq!(rt; takes(rt.alloc(), command, text, 64)?, true);
-        assert_eq!(rt; takes(rt.alloc(), command, text, 65)?, false);
-    }
-    Ok(())
+    let found = asked(alloc, command_of(name), words.as_slice())?;
+    let taken = found.as_str() != "refused\n";
+    Ok(format!(in alloc; "taken {taken}\n")?)
 }
