@@ -1,4 +1,6 @@
 //! Tables, and the places of their texts.
+ghost use Rattle.std.specs.Prelude.{◌<◌, [], length, slice_index_or};
+
 use crate::reading::read;
 use ch_cells::{CellRef, Kind};
 use ch_tables::Table;
@@ -63,17 +65,22 @@ pub(crate) fn table(alloc: Global, said: &str) -> anyhow::Result<String> {
     }
 }
 
+/// Adds the words of a row.
+fn push_words(words: &mut Vec<i64>, table: &Table, part: u32, row: u32) -> anyhow::Result<()>
+    requires part { part < length table.now.parts }
+    requires row { row < length (slice_index_or table.now.parts part []) }
+{
+    for col in 0..table.header().len() {
+        words.push(table.word(part, row, col as u32))?;
+    }
+    Ok(())
+}
+
 fn words_of(alloc: Global, table: &Table) -> anyhow::Result<Vec<i64>> {
     let mut words = Vec::new(alloc);
-    let width = table.header().len();
-    if width > 1000 {
-        return Ok(words);
-    }
     for part in 0..table.parts() {
         for row in 0..table.rows(part) {
-            for col in 0..width {
-                words.push(table.word(part, row, col as u32))?;
-            }
+            push_words(&mut words, table, part, row)?;
         }
     }
     Ok(words)
