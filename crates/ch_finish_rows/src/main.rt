@@ -16,7 +16,7 @@ ghost use Rattle.ch_sql_grammar.specs.Tree.{select_of};
 use crate::arrivals::{arrivals, dictionary};
 use crate::tables::read_tables;
 use ch_bind::{TableShape, bind, shapes_of};
-use ch_cells::{Answer, Listed, Memory};
+use ch_cells::{Answer, Bytes, Listed, Memory};
 use ch_finish::{Received, finish, folded};
 use ch_pred::Bound;
 use ch_print::answer_text;
@@ -33,20 +33,25 @@ fn query_of(alloc: Global, text: &[u8]) -> Result<Query, QueryError>
     read_query(alloc, text)
 }
 
-fn text_of(alloc: Global, answer: &Answer) -> anyhow::Result<String> {
-    let text = answer_text(alloc, answer)?;
+fn string_of(alloc: Global, text: &Bytes) -> anyhow::Result<String> {
     let text = format!(in alloc; "{}", str::from_utf8(text.as_slice())?)?;
     Ok(text)
 }
 
-/// The number of entries and the answer of a fold, which is asked twice, and the answer of the rows at once.
+fn text_of(alloc: Global, answer: &Answer) -> anyhow::Result<String> {
+    let text = answer_text(alloc, answer)?;
+    string_of(alloc, &text)
+}
+
+/// The number of entries and the answer of a fold, which is asked for its rows and for its text, and the answer of the rows
+/// at once.
 fn shown(alloc: Global, query: &Bound, ranks: &Ranks, rows: &Received) -> anyhow::Result<String>
     requires sound { IsSound query.now }
     requires fits { Each (λ a. RowFits ranks.now query.now a.side a.words) rows.now }
 {
     let fold = folded(alloc, query, rows, ranks)?;
     let first = text_of(alloc, &fold.answer(alloc, query, ranks)?)?;
-    let again = text_of(alloc, &fold.answer(alloc, query, ranks)?)?;
+    let again = string_of(alloc, &fold.text(alloc, query, ranks)?)?;
     let whole = text_of(alloc, &finish(alloc, query, rows, ranks)?)?;
     let size = fold.size();
     if first == again && again == whole {

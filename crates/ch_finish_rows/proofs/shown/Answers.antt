@@ -5,5 +5,5 @@ use Rattle.ch_finish_rows.proofs.shown.Goals as goal
 pub answer-requires-clause-stands : goal.answer-requires-clause-stands
 answer-requires-clause-stands c = (map row_of c.args.rows.now, c.in_ok-fold.ensures (map row_of c.args.rows.now) (some_rows c.args.rows.now))
 
-pub answer-requires-2-clause-stands : goal.answer-requires-2-clause-stands
-answer-requires-2-clause-stands c = (map row_of c.args.rows.now, c.in_ok-fold.ensures (map row_of c.args.rows.now) (some_rows c.args.rows.now))
+pub text-requires-clause-stands : goal.text-requires-clause-stands
+text-requires-clause-stands c = (map row_of c.args.rows.now, c.in_ok-fold.ensures (map row_of c.args.rows.now) (some_rows c.args.rows.now))
