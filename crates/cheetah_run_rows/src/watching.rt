@@ -15,24 +15,32 @@ use std::alloc::Global;
 use std::str;
 
 /// The counts of the run, or the report of what is open with the number of rows of the answer.
-fn ending(alloc: Global, run: &Run<'_>, rows: usize) -> anyhow::Result<Bytes> {
+fn ending(alloc: Global, run: &Run<'_>) -> anyhow::Result<Bytes> {
+    let rows = run.answer_len()? as u64;
     let outcome = run.outcome()?;
     let said = match &outcome {
         Outcome::Done(counts) => counts_text(alloc, counts),
-        Outcome::Open(flows) => report_text(alloc, flows.as_slice(), rows as u64),
+        Outcome::Open(flows) => report_text(alloc, flows.as_slice(), rows),
     };
     drop(outcome);
     Ok(said?)
 }
 
+/// The answer over what the master has received up to now, by its rows and as the run writes it.
+fn answers(alloc: Global, run: &Run<'_>) -> anyhow::Result<(Bytes, Bytes)> {
+    let answer = run.answer()?;
+    let text = answer_text(alloc, &answer)?;
+    Ok((text, run.text()?))
+}
+
 /// Adds the answer over what the master has received up to now, and how the run stands.
 fn show(alloc: Global, run: &Run<'_>, lines: &mut String) -> anyhow::Result<()> {
-    let answer = run.answer()?;
-    let count = answer.rows.len();
-    let text = answer_text(alloc, &answer);
-    drop(answer);
-    lines.push_str(str::from_utf8(text?.as_slice())?)?;
-    let stands = ending(alloc, run, count)?;
+    let (text, written) = answers(alloc, run)?;
+    if text.as_slice() != written.as_slice() {
+        lines.push_str("written otherwise:\n")?;
+    }
+    lines.push_str(str::from_utf8(written.as_slice())?)?;
+    let stands = ending(alloc, run)?;
     lines.push_str(str::from_utf8(stands.as_slice())?)?;
     Ok(())
 }
