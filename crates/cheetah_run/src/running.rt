@@ -1,11 +1,13 @@
-ghost use Rattle.std.specs.Prelude.{◌≡◌, [], IfOk};
+ghost use Rattle.std.specs.Prelude.{◌≡◌, ◌<◌, ◌+◌, ◌^◌, false, [], All, IfOk, length};
 ghost use Rattle.ch_plan.specs.Kinds.{IsPlanOf};
 ghost use Rattle.ch_print.specs.RunTexts.{counts_line, report};
 ghost use Rattle.ch_protocol.specs.Machine.{State};
 ghost use Rattle.ch_run.specs.Runs.{Begun, IsRunOf};
+ghost use Rattle.ch_schedule.specs.Bad.{is_forged};
+ghost use Rattle.ch_schedule.specs.Event.{events_of};
 ghost use Rattle.cheetah_inputs.specs.Inputs.{given_of};
 ghost use Rattle.cheetah_run.specs.Asking.{AreAsked};
-ghost use Rattle.cheetah_run.specs.Saying.{said_by_run, said_in};
+ghost use Rattle.cheetah_run.specs.Saying.{behind, said_by_run, said_in};
 
 use ch_asked::rank_texts;
 use ch_cells::{Bytes, Counts, Memory, OpenFlow};
@@ -13,6 +15,7 @@ use ch_command::{Ending, Outcome};
 use ch_plan::Planned;
 use ch_print::{counts_text, report_text};
 use ch_run::{Outcome as RunOutcome, Run};
+use ch_schedule::Schedule;
 use cheetah_inputs::Inputs;
 use std::alloc::Global;
 
@@ -51,6 +54,16 @@ fn say(alloc: Global, run: &Run<'_>) -> Result<Outcome, Memory>
     }
 }
 
+/// Follows a schedule, and says what is written of the run behind it.
+fn say_behind(alloc: Global, run: &mut Run<'_>, schedule: &Schedule) -> Result<Outcome, Memory>
+    requires unforged { All (λ x. is_forged x ≡ false) schedule.now.steps }
+    requires epochs { run.old.switch.epoch + length schedule.now.steps < 2 ^ 32 }
+    ensures { (q : Begun) (s : State) → IsRunOf q run.old s → IfOk result (λ said. said ≡ said_in q (behind q.given.config (events_of schedule.now.steps) schedule.now.drain s)) }
+{
+    run.follow(schedule)?;
+    say(alloc, run)
+}
+
 /// Runs a planned query over its tables along its schedule, and says what is written of it. Rows reach the answer through
 /// the links alone.
 pub fn run_query(alloc: Global, inputs: &Inputs, planned: Planned) -> Result<Outcome, Memory>
@@ -62,6 +75,7 @@ pub fn run_query(alloc: Global, inputs: &Inputs, planned: Planned) -> Result<Out
     let ranks = rank_texts(alloc, &inputs.bound, tables)?;
     let window = inputs.profile.window;
     let mut run = Run::start(alloc, tables, &inputs.bound, &ranks, planned, window)?;
-    run.follow(&inputs.schedule)?;
-    say(alloc, &run)
+    let said = say_behind(alloc, &mut run, &inputs.schedule);
+    drop(run);
+    said
 }

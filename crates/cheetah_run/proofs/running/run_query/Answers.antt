@@ -3,9 +3,7 @@ use Rattle.ch_asked.specs.Texts.{asked_texts, dictionary_of}
 use Rattle.ch_ir.specs.declared.setting.Setting.TheVariants.{Window}
 use Rattle.ch_parts.specs.Scanned.{AreTables, parts_of}
 use Rattle.ch_protocol.specs.Machine.{start}
-use Rattle.ch_protocol.specs.Outcome.{after_schedule}
 use Rattle.ch_run.specs.Asked.{AreFew, begun_of, config_of}
-use Rattle.ch_schedule.specs.Event.{events_of}
 use Rattle.ch_tables.specs.TableValue.{TableValue}
 use Rattle.cheetah_run.proofs.Asked.{are_tables, few_carried, few_parts, few_steps, known, ranged, unforged}
 use Rattle.cheetah_run.proofs.Ends.{run_comes}
@@ -32,11 +30,11 @@ start-requires-clause-few c =
     let inputs = c.args.inputs.now in
     subst (λ (ts : List TableValue). AreFew (parts_of c.in_ok-ranks.ranks inputs.bound ts)) (sym c.as_slice-tables.ensures) (few_parts inputs c.requires.asked c.in_ok-ranks.ranks)
 
-pub follow-requires-clause-unforged : goal.follow-requires-clause-unforged
-follow-requires-clause-unforged c = unforged c.args.inputs.now c.requires.asked
+pub say_behind-said-requires-clause-unforged : goal.say_behind-said-requires-clause-unforged
+say_behind-said-requires-clause-unforged c = unforged c.args.inputs.now c.requires.asked
 
-pub follow-requires-clause-epochs : goal.follow-requires-clause-epochs
-follow-requires-clause-epochs c =
+pub say_behind-said-requires-clause-epochs : goal.say_behind-said-requires-clause-epochs
+say_behind-said-requires-clause-epochs c =
     let begins = c.in_ok-run.ensures.stands.switch.epoch_is in
     let few = few_steps c.args.inputs.now c.requires.asked in
     omega (arith, begins, few)
@@ -48,6 +46,5 @@ returns c =
     let tables = c.as_slice-tables.result.now in
     let q = begun_of ranks inputs.bound tables c.args.planned.kind inputs.profile.window in
     let x = config_of ranks inputs.bound tables c.args.planned.kind inputs.profile.window in
-    let ended = c.in_ok-follow.ensures.ok q (start x) c.in_ok-run.ensures in
-    run_comes inputs c.args.planned.kind c.requires.asked c.requires.plan ranks tables c.say.result c.in_ok-ranks.ensures.is c.in_ok-ranks.ensures.few c.as_slice-tables.ensures
-    (c.say.ensures q (after_schedule x (events_of inputs.schedule.steps) inputs.schedule.drain) ended)
+    run_comes inputs c.args.planned.kind c.requires.asked c.requires.plan ranks tables c.say_behind-said.result c.in_ok-ranks.ensures.is c.in_ok-ranks.ensures.few c.as_slice-tables.ensures
+    (c.say_behind-said.ensures q (start x) c.in_ok-run.ensures)
