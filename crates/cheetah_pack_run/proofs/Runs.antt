@@ -26,7 +26,7 @@ use Rattle.ch_switch.specs.Switching.{Switching, fresh}
 use Rattle.ch_tables.specs.TableValue.{TableValue}
 use Rattle.ch_verify.specs.Checked.{IsChecked}
 use Rattle.cheetah_pack_meaning.specs.Meaning.{said_alone}
-use Rattle.cheetah_pack_run.specs.Running.{AreAskedPlans, HasStopped, IsAskedPlan, IsInstalled, inputs_alone}
+use Rattle.cheetah_pack_run.specs.Running.{AreAskedPlans, IsAskedPlan, IsInstalled, StopsDrained, inputs_alone}
 use Rattle.cheetah_pack_meaning.proofs.Asked.{are_tables, few_carried, few_parts, known, ranged, some_parts}
 use Rattle.cheetah_pack_meaning.proofs.Ends.{run_comes}
 use Rattle.cheetah_pack_meaning.specs.Saying.{said_in}
@@ -96,17 +96,23 @@ module _ (plans : List Planned) (profile : Profile) (selector number : ℕ) (pip
     abbrev c : Config
     c = config_of texts b tables p.kind profile.window
 
-    module _ (x : Engine) (run : IsRunOf (begun_over texts b tables p.kind profile.window switch) x (drain c (start c))) where
-      -- a drained run has stopped
-      pub has_stopped : HasStopped x
-      has_stopped =
-          let inputs = inputs_alone profile tables b in
-          let many : workers c ≡ length (parts_of texts b tables) = length-map (parts_of texts b tables) rows_in in
-          let there = some_parts inputs asked.asked texts in
-          let some : 0 < workers c = omega (arith, many, there) in
-          let room : 1 ≤ c.window = (ranged inputs asked.asked Window).0 in
-          record { begun = begun_over texts b tables p.kind profile.window switch; state = drain c (start c); is = run; stop = drains_after c some room (start c) (reached_ready c (start c) some room ([], refl)) }
+    -- a drain stops it
+    pub stops : (x : Engine) → IsRunOf (begun_over texts b tables p.kind profile.window switch) x (start c) → StopsDrained x
+    stops x run =
+        let inputs = inputs_alone profile tables b in
+        let many : workers c ≡ length (parts_of texts b tables) = length-map (parts_of texts b tables) rows_in in
+        let there = some_parts inputs asked.asked texts in
+        let some : 0 < workers c = omega (arith, many, there) in
+        let room : 1 ≤ c.window = (ranged inputs asked.asked Window).0 in
+        record { begun = begun_over texts b tables p.kind profile.window switch; state = start c; is = run; stop = drains_after c some room (start c) (reached_ready c (start c) some room ([], refl)) }
 
+    -- what it says
+    pub says : (said : Outcome) → said ≡ said_in (begun_over texts b tables p.kind profile.window switch) (drain c (start c)) → said ≡ said_alone profile tables (plain_bound b)
+    says said is =
+        let judged : Result Outcome ℕ = Ok said in
+        run_comes (inputs_alone profile tables b) p.kind asked.asked asked.plan texts tables judged texts_are few refl is
+
+    module _ (x : Engine) (run : IsRunOf (begun_over texts b tables p.kind profile.window switch) x (drain c (start c))) where
       -- what it leaves
       pub leaves : (after : Installed) → after.program ≡ x.switch.program → after.registers ≡ x.switch.registers → IsInstalled plans profile selector (suc number) after
       leaves after program registers =
@@ -121,9 +127,3 @@ module _ (plans : List Planned) (profile : Profile) (selector number : ℕ) (pip
             program_is = program ∙ left.0;
             untouched = subst (AreClearedFrom (programs_of plans) (suc number)) (sym registers) left.1;
           }
-
-      -- what it says
-      pub says : (said : Outcome) → said ≡ said_in (begun_over texts b tables p.kind profile.window switch) (drain c (start c)) → said ≡ said_alone profile tables (plain_bound b)
-      says said is =
-          let judged : Result Outcome ℕ = Ok said in
-          run_comes (inputs_alone profile tables b) p.kind asked.asked asked.plan texts tables judged texts_are few refl is

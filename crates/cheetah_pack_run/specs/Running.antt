@@ -9,6 +9,7 @@ use Rattle.ch_pipe.specs.Installed.{Installed}
 use Rattle.ch_plan.specs.Kinds.{IsPlanOf}
 use Rattle.ch_plan.specs.declared.planned.Planned.{Planned}
 use Rattle.ch_pred.specs.declared.bound.Bound.{Bound}
+use Rattle.ch_protocol.specs.Drain.{drain}
 use Rattle.ch_protocol.specs.Machine.{State, stopped}
 use Rattle.ch_run.specs.Runs.{Begun, IsRunOf}
 use Rattle.ch_tables.specs.TableValue.{TableValue}
@@ -46,3 +47,17 @@ pub record HasStopped (x : Engine) : Type 0 where
   pub state : State
   pub is : IsRunOf begun x state
   pub stop : stopped begun.given.config state ≡ true
+
+-- a run that a drain stops
+pub record StopsDrained (x : Engine) : Type 0 where
+  pub begun : Begun
+  pub state : State
+  pub is : IsRunOf begun x state
+  pub stop : stopped begun.given.config (drain begun.given.config state) ≡ true
+
+-- the program and registers are those of the switch of a run that is in this state
+pub record IsLeft (q : Begun) (s : State) (pipe : Installed) : Type 0 where
+  pub run : Engine
+  pub is : IsRunOf q run s
+  pub program : pipe.program ≡ run.switch.program
+  pub registers : pipe.registers ≡ run.switch.registers

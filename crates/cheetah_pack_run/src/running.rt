@@ -3,11 +3,12 @@ ghost use Rattle.ch_bind.specs.Binding.{plain_bound};
 ghost use Rattle.ch_pack.specs.Plans.{IsPacked};
 ghost use Rattle.ch_parts.specs.Scanned.{AreTables, parts_of};
 ghost use Rattle.ch_plan.specs.declared.planned.Planned.{Planned as Plan};
+ghost use Rattle.ch_protocol.specs.Drain.{drain};
 ghost use Rattle.ch_protocol.specs.Machine.{State};
 ghost use Rattle.ch_run.specs.Runs.{Begun, IsRunOf};
 ghost use Rattle.cheetah_pack_meaning.specs.Saying.{said_in};
 ghost use Rattle.cheetah_pack_meaning.specs.Meaning.{said_alone, together};
-ghost use Rattle.cheetah_pack_run.specs.Running.{AreAskedPlans, HasStopped, IsAskedPlan, IsInstalled};
+ghost use Rattle.cheetah_pack_run.specs.Running.{AreAskedPlans, HasStopped, IsAskedPlan, IsInstalled, IsLeft, StopsDrained};
 
 use ch_asked::rank_texts;
 use ch_cells::{Bytes, Memory};
@@ -67,6 +68,19 @@ struct Ran {
     said: Outcome,
 }
 
+/// Drains a run, says what it wrote, and hands the program on.
+fn drain_over(alloc: Global, run: Run<'_>) -> Result<Ran, Memory>
+    requires { StopsDrained run }
+    ensures left { (q : Begun) (s : State) → IsRunOf q run.entry s → IfOk result (λ ran. IsLeft q (drain q.given.config s) ran.pipe) }
+    ensures said { (q : Begun) (s : State) → IsRunOf q run.entry s → IfOk result (λ ran. ran.said ≡ said_in q (drain q.given.config s)) }
+{
+    let mut run = run;
+    run.drain()?;
+    let said = say_done(alloc, &run)?;
+    let pipe = run.into_switch().into_pipe();
+    Ok(Ran { pipe, said })
+}
+
 /// Runs a query over the packed program as it stands, and hands the program on.
 fn run_one(
     alloc: Global,
@@ -90,11 +104,8 @@ fn run_one(
     let ranks = rank_texts(alloc, bound, tables)?;
     let workers = count_workers(alloc, tables, bound, &ranks)?;
     let switch = Switch::over(alloc, pipe, selector, number as u32, workers)?;
-    let mut run = Run::start_over(alloc, tables, bound, &ranks, plan, profile.window, switch)?;
-    run.drain()?;
-    let said = say_done(alloc, &run)?;
-    let pipe = run.into_switch().into_pipe();
-    Ok(Ran { pipe, said })
+    let run = Run::start_over(alloc, tables, bound, &ranks, plan, profile.window, switch)?;
+    drain_over(alloc, run)
 }
 
 /// Adds an answer, with an empty line behind it.

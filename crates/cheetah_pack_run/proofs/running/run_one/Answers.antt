@@ -1,8 +1,9 @@
 use Rattle.std.proofs.Common.{◌∙◌, ap, sym, Some, arith}
 use Rattle.std.proofs.lemmas.Option.{slice_get-get_or}
+use Rattle.std.proofs.lemmas.Result.{IfOk-weaker}
 use Rattle.ch_protocol.specs.Machine.{start}
 use Rattle.ch_run.specs.Asked.{begun_over}
-use Rattle.cheetah_pack_run.proofs.Runs.{begins, behind_three, has_stopped, is_word, known_tables, least_window, leaves, packed_plan, says}
+use Rattle.cheetah_pack_run.proofs.Runs.{begins, behind_three, is_word, known_tables, least_window, leaves, packed_plan, says, stops}
 use Rattle.cheetah_pack_run.proofs.running.run_one.Goals as goal
 
 pub rank_texts-requires : goal.rank_texts-requires
@@ -79,20 +80,24 @@ start_over-requires-clause-switch c =
     let at = slice_get-get_or c.args.plans.now c.args.number p c.requires.number ∙ ap Some (sym c.index-plans-number.is) in
     begins c.args.plans.now c.args.profile.now c.args.selector c.args.number c.args.pipe p c.args.bound.now c.args.tables.now c.in_ok-ranks.ranks (c.requires.asked p at) c.requires.installed at c.program-checked.ensures.checked c.in_ok-ranks.ensures.is c.in_ok-ranks.ensures.few c.in_ok-workers.workers c.in_ok-switch.switch c.in_ok-workers.ensures c.in_ok-switch.ensures.fresh
 
-pub say_done-requires : goal.say_done-requires
-say_done-requires c =
+pub drain_over-requires : goal.drain_over-requires
+drain_over-requires c =
     let p = c.index-plans-number.result in
     let at = slice_get-get_or c.args.plans.now c.args.number p c.requires.number ∙ ap Some (sym c.index-plans-number.is) in
-    let q = begun_over c.in_ok-ranks.ranks c.args.bound.now c.args.tables.now p.kind c.args.profile.now.window c.in_ok-switch.switch in let run = c.in_ok-drain.ensures.ok q (start q.given.config) c.in_ok-run.ensures in has_stopped c.args.plans.now c.args.profile.now c.args.selector c.args.number c.args.pipe p c.args.bound.now c.args.tables.now c.in_ok-ranks.ranks (c.requires.asked p at) c.requires.installed at c.program-checked.ensures.checked c.in_ok-ranks.ensures.is c.in_ok-ranks.ensures.few c.in_ok-workers.workers c.in_ok-switch.switch c.in_ok-workers.ensures c.in_ok-switch.ensures.fresh c.drain.new.self run
+    stops c.args.plans.now c.args.profile.now c.args.selector c.args.number c.args.pipe p c.args.bound.now c.args.tables.now c.in_ok-ranks.ranks (c.requires.asked p at) c.requires.installed at c.program-checked.ensures.checked c.in_ok-ranks.ensures.is c.in_ok-ranks.ensures.few c.in_ok-workers.workers c.in_ok-switch.switch c.in_ok-workers.ensures c.in_ok-switch.ensures.fresh _ c.in_ok-run.ensures
 
 pub returns-clause-installed : goal.returns-clause-installed
 returns-clause-installed c =
     let p = c.index-plans-number.result in
     let at = slice_get-get_or c.args.plans.now c.args.number p c.requires.number ∙ ap Some (sym c.index-plans-number.is) in
-    let q = begun_over c.in_ok-ranks.ranks c.args.bound.now c.args.tables.now p.kind c.args.profile.now.window c.in_ok-switch.switch in let run = c.in_ok-drain.ensures.ok q (start q.given.config) c.in_ok-run.ensures in leaves c.args.plans.now c.args.profile.now c.args.selector c.args.number c.args.pipe p c.args.bound.now c.args.tables.now c.in_ok-ranks.ranks (c.requires.asked p at) c.requires.installed at c.program-checked.ensures.checked c.in_ok-ranks.ensures.is c.in_ok-ranks.ensures.few c.in_ok-workers.workers c.in_ok-switch.switch c.in_ok-workers.ensures c.in_ok-switch.ensures.fresh c.drain.new.self run c.into_pipe-pipe.result (ap (λ i. i.program) c.into_pipe-pipe.ensures ∙ ap (λ s. s.program) c.into_switch.ensures) (ap (λ i. i.registers) c.into_pipe-pipe.ensures ∙ ap (λ s. s.registers) c.into_switch.ensures)
+    let q = begun_over c.in_ok-ranks.ranks c.args.bound.now c.args.tables.now p.kind c.args.profile.now.window c.in_ok-switch.switch in
+    IfOk-weaker c.drain_over.result _ _
+    (λ ran left. leaves c.args.plans.now c.args.profile.now c.args.selector c.args.number c.args.pipe p c.args.bound.now c.args.tables.now c.in_ok-ranks.ranks (c.requires.asked p at) c.requires.installed at c.program-checked.ensures.checked c.in_ok-ranks.ensures.is c.in_ok-ranks.ensures.few c.in_ok-workers.workers c.in_ok-switch.switch c.in_ok-workers.ensures c.in_ok-switch.ensures.fresh left.run left.is ran.pipe left.program left.registers)
+    (c.drain_over.ensures.left q (start q.given.config) c.in_ok-run.ensures)
 
 pub returns-clause-said : goal.returns-clause-said
 returns-clause-said c =
     let p = c.index-plans-number.result in
     let at = slice_get-get_or c.args.plans.now c.args.number p c.requires.number ∙ ap Some (sym c.index-plans-number.is) in
-    let q = begun_over c.in_ok-ranks.ranks c.args.bound.now c.args.tables.now p.kind c.args.profile.now.window c.in_ok-switch.switch in let run = c.in_ok-drain.ensures.ok q (start q.given.config) c.in_ok-run.ensures in says c.args.plans.now c.args.profile.now c.args.selector c.args.number c.args.pipe p c.args.bound.now c.args.tables.now c.in_ok-ranks.ranks (c.requires.asked p at) c.requires.installed at c.program-checked.ensures.checked c.in_ok-ranks.ensures.is c.in_ok-ranks.ensures.few c.in_ok-workers.workers c.in_ok-switch.switch c.in_ok-workers.ensures c.in_ok-switch.ensures.fresh c.drain.new.self run c.in_ok-said.said (c.in_ok-said.ensures q _ run)
+    let q = begun_over c.in_ok-ranks.ranks c.args.bound.now c.args.tables.now p.kind c.args.profile.now.window c.in_ok-switch.switch in
+    IfOk-weaker c.drain_over.result _ _ (λ ran. says c.args.plans.now c.args.profile.now c.args.selector c.args.number c.args.pipe p c.args.bound.now c.args.tables.now c.in_ok-ranks.ranks (c.requires.asked p at) c.requires.installed at c.program-checked.ensures.checked c.in_ok-ranks.ensures.is c.in_ok-ranks.ensures.few c.in_ok-workers.workers c.in_ok-switch.switch c.in_ok-workers.ensures c.in_ok-switch.ensures.fresh ran.said) (c.drain_over.ensures.said q (start q.given.config) c.in_ok-run.ensures)
