@@ -4,7 +4,7 @@
 //! command:
 //!
 //! - `row NAME` begins a row, without files and faults; `file`, `large`, `shelf`, `out` and `err` add to it (`row.rt`);
-//! - `run`, `usage`, `begins` and `changed` run a command over the row's files (`runs.rt`, `traces.rt`);
+//! - `run`, `bare`, `usage`, `begins` and `changed` run a command over the row's files (`runs.rt`, `traces.rt`);
 //! - `read`, `end` and `refuse` are of what a command does at its start and its end (`ends.rt`);
 //! - `cheetah`, `pack` and `audit` read the words of that command, and `many` with words behind them (`words.rt`);
 //! - `requested`, `drawn`, `command`, `front` and `summary` are of generated inputs (`generated.rt`);
@@ -25,7 +25,7 @@ use crate::ends::{ended, read, refused};
 use crate::generated::{command, drawn, front, requested, summed_up};
 use crate::outside::{lent, memory, put};
 use crate::row::Row;
-use crate::runs::{begins, run, usage};
+use crate::runs::{bare, begins, run, usage};
 use crate::system::{disk, fill, over, print, remove, streams, write};
 use crate::traces::changed;
 use crate::words::{Command, many, words};
@@ -50,6 +50,7 @@ fn parts_shown(alloc: Global, row: &Row, word: &str, said: &str) -> anyhow::Resu
 fn calls_shown(alloc: Global, row: &Row, word: &str, said: &str) -> anyhow::Result<String> {
     match word {
         "run" => run(alloc, row, said),
+        "bare" => bare(alloc, row, said),
         "usage" => usage(alloc, row, said),
         "begins" => begins(alloc, row, said),
         "changed" => changed(alloc, row, said),

@@ -1,6 +1,7 @@
 //! Commands over the files of a row.
 //!
 //! - `run WORDS`: the status, what is on out, and behind `err: ` what is on err;
+//! - `bare COMMAND`: the same, without any words;
 //! - `usage WORDS`: the status, how many bytes are on out, and whether any are on err, which isn't fixed;
 //! - `begins TEXT/WORDS`: the status, whether out begins so, and how many bytes are on err.
 use crate::row::{Row, bytes_of, cut, listed_words};
@@ -59,34 +60,38 @@ fn status_of(
     }
 }
 
-/// What words come to over a shelf. The command is named by a word of its own where there are no words.
+/// What words come to over a shelf, where they are those of this command.
 pub(crate) fn run_over(
     alloc: Global,
     row: &Row,
+    name: &str,
     said: &str,
     shelf: &mut MapShelf,
 ) -> anyhow::Result<Ran> {
-    let (name, _) = cut(said, "|");
-    let none = said == "cheetah_check|";
-    let words = listed_words(alloc, if none { "" } else { said })?;
+    let words = listed_words(alloc, said)?;
     let mut out = row.to_out(alloc)?;
     let mut err = row.to_err(alloc)?;
     let status = status_of(alloc, name, &words, shelf, &mut out, &mut err);
     Ran::new(alloc, status, &out, &err)
 }
 
-fn made_run(alloc: Global, row: &Row, said: &str) -> anyhow::Result<Ran> {
+fn made_run(alloc: Global, row: &Row, name: &str, said: &str) -> anyhow::Result<Ran> {
     let mut shelf = row.to_shelf(alloc)?;
-    run_over(alloc, row, said, &mut shelf)
+    run_over(alloc, row, name, said, &mut shelf)
 }
 
 pub(crate) fn run(alloc: Global, row: &Row, said: &str) -> anyhow::Result<String> {
-    let ran = made_run(alloc, row, said)?;
+    let ran = made_run(alloc, row, cut(said, "|").0, said)?;
+    ran.text(alloc)
+}
+
+pub(crate) fn bare(alloc: Global, row: &Row, said: &str) -> anyhow::Result<String> {
+    let ran = made_run(alloc, row, said, "")?;
     ran.text(alloc)
 }
 
 pub(crate) fn usage(alloc: Global, row: &Row, said: &str) -> anyhow::Result<String> {
-    let ran = made_run(alloc, row, said)?;
+    let ran = made_run(alloc, row, cut(said, "|").0, said)?;
     let (status, out, any) = (ran.status, ran.out.len(), ran.err.len() > 0);
     Ok(format!(in alloc; "status {status}, out {out}, err {any}\n")?)
 }
@@ -94,7 +99,7 @@ pub(crate) fn usage(alloc: Global, row: &Row, said: &str) -> anyhow::Result<Stri
 pub(crate) fn begins(alloc: Global, row: &Row, said: &str) -> anyhow::Result<String> {
     let (text, words) = cut(said, "/");
     let text = bytes_of(alloc, text)?;
-    let ran = made_run(alloc, row, words)?;
+    let ran = made_run(alloc, row, cut(words, "|").0, words)?;
     let begins = ran.out.as_slice().starts_with(text.as_slice());
     let (status, err) = (ran.status, ran.err.len());
     Ok(format!(in alloc; "status {status}, begins {begins}, err {err}\n")?)

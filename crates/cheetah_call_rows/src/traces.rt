@@ -88,7 +88,7 @@ fn change(
     for byte in OTHERS {
         if *byte != there {
             let mut shelf = changed_shelf(alloc, row, place, *byte)?;
-            let ran = run_over(alloc, row, words, &mut shelf)?;
+            let ran = run_over(alloc, row, cut(words, "|").0, words, &mut shelf)?;
             note(alloc, found, &ran, place, *byte)?;
         }
     }
