@@ -1,13 +1,11 @@
 -- What is written of a run.
-use Rattle.std.specs.Prelude.{Bool, if◌then◌else◌, List, [], length, map}
+use Rattle.std.specs.Prelude.{List, [], length, map}
 use Rattle.ch_cells.specs.declared.Cell.{Cell}
 use Rattle.ch_command.specs.declared.outcome.Ending.TheVariants as ending
 use Rattle.ch_command.specs.declared.outcome.Outcome.{Outcome}
 use Rattle.ch_print.specs.AnswerText.{text_of}
 use Rattle.ch_print.specs.RunTexts.{counts_line, report}
-use Rattle.ch_protocol.specs.Drain.{drain}
-use Rattle.ch_protocol.specs.Machine.{Config, Event, State, passes}
-use Rattle.ch_protocol.specs.Machine as machine
+use Rattle.ch_protocol.specs.Machine.{State, passes}
 use Rattle.ch_protocol.specs.Outcome as run
 use Rattle.ch_protocol.specs.Outcome.Outcome.{Done, Open}
 use Rattle.ch_protocol.specs.Received.{rows_arrived}
@@ -39,7 +37,3 @@ said_of_run q s (Open flows) = record { ending = ending.Open; out = []; err = re
 
 abbrev pub said_in : Begun → State → Outcome
 said_in q s = said_of_run q s (run.outcome q.given.config s)
-
--- the state behind these events, and behind a drain where they end in one, of a run that is in this state
-abbrev pub behind : Config → List Event → Bool → State → State
-behind c events drains s = let t = machine.run c events s in if drains then drain c t else t

@@ -1,13 +1,14 @@
 ghost use Rattle.std.specs.Prelude.{◌≡◌, ◌<◌, ◌+◌, ◌^◌, false, [], All, IfOk, length};
 ghost use Rattle.ch_plan.specs.Kinds.{IsPlanOf};
 ghost use Rattle.ch_print.specs.RunTexts.{counts_line, report};
-ghost use Rattle.ch_protocol.specs.Machine.{State};
+ghost use Rattle.ch_protocol.specs.Machine.{State, start};
+ghost use Rattle.ch_protocol.specs.Outcome.{after_schedule};
 ghost use Rattle.ch_run.specs.Runs.{Begun, IsRunOf};
 ghost use Rattle.ch_schedule.specs.Bad.{is_forged};
 ghost use Rattle.ch_schedule.specs.Event.{events_of};
 ghost use Rattle.cheetah_inputs.specs.Inputs.{given_of};
 ghost use Rattle.cheetah_run.specs.Asking.{AreAsked};
-ghost use Rattle.cheetah_run.specs.Saying.{behind, said_by_run, said_in};
+ghost use Rattle.cheetah_run.specs.Saying.{said_by_run, said_in};
 
 use ch_asked::rank_texts;
 use ch_cells::{Bytes, Counts, Memory, OpenFlow};
@@ -54,11 +55,11 @@ fn say(alloc: Global, run: &Run<'_>) -> Result<Outcome, Memory>
     }
 }
 
-/// Follows a schedule, and says what is written of the run behind it.
+/// Follows a schedule from the first state on, and says what is written of the run behind it.
 fn say_behind(alloc: Global, run: &mut Run<'_>, schedule: &Schedule) -> Result<Outcome, Memory>
     requires unforged { All (λ x. is_forged x ≡ false) schedule.now.steps }
     requires epochs { run.old.switch.epoch + length schedule.now.steps < 2 ^ 32 }
-    ensures { (q : Begun) (s : State) → IsRunOf q run.old s → IfOk result (λ said. said ≡ said_in q (behind q.given.config (events_of schedule.now.steps) schedule.now.drain s)) }
+    ensures { (q : Begun) → IsRunOf q run.old (start q.given.config) → IfOk result (λ said. said ≡ said_in q (after_schedule q.given.config (events_of schedule.now.steps) schedule.now.drain)) }
 {
     run.follow(schedule)?;
     say(alloc, run)

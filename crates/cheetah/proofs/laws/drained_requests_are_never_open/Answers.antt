@@ -1,7 +1,5 @@
 use Rattle.std.proofs.Common.{◌≡◌, ◌∙◌, ap, refl, Bool, true, false, Option}
-use Rattle.ch_command.specs.declared.outcome.Ending.{Ending}
 use Rattle.ch_command.specs.declared.outcome.Ending.TheVariants.{Done}
-use Rattle.ch_command.specs.declared.outcome.Outcome.{Outcome}
 use Rattle.ch_plan.specs.declared.error.PlanError.{PlanError}
 use Rattle.cheetah_inputs.specs.Inputs.{Given, given_of}
 use Rattle.cheetah_run.proofs.Ends.{drained_is_done}

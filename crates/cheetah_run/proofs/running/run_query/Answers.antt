@@ -2,8 +2,7 @@ use Rattle.std.proofs.Common.{◌∙◌, ap, arith, length, subst, sym, List}
 use Rattle.ch_asked.specs.Texts.{asked_texts, dictionary_of}
 use Rattle.ch_ir.specs.declared.setting.Setting.TheVariants.{Window}
 use Rattle.ch_parts.specs.Scanned.{AreTables, parts_of}
-use Rattle.ch_protocol.specs.Machine.{start}
-use Rattle.ch_run.specs.Asked.{AreFew, begun_of, config_of}
+use Rattle.ch_run.specs.Asked.{AreFew, begun_of}
 use Rattle.ch_tables.specs.TableValue.{TableValue}
 use Rattle.cheetah_run.proofs.Asked.{are_tables, few_carried, few_parts, few_steps, known, ranged, unforged}
 use Rattle.cheetah_run.proofs.Ends.{run_comes}
@@ -45,6 +44,5 @@ returns c =
     let ranks = c.in_ok-ranks.ranks in
     let tables = c.as_slice-tables.result.now in
     let q = begun_of ranks inputs.bound tables c.args.planned.kind inputs.profile.window in
-    let x = config_of ranks inputs.bound tables c.args.planned.kind inputs.profile.window in
     run_comes inputs c.args.planned.kind c.requires.asked c.requires.plan ranks tables c.say_behind-said.result c.in_ok-ranks.ensures.is c.in_ok-ranks.ensures.few c.as_slice-tables.ensures
-    (c.say_behind-said.ensures q (start x) c.in_ok-run.ensures)
+    (c.say_behind-said.ensures q c.in_ok-run.ensures)
