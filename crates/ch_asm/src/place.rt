@@ -7,7 +7,7 @@ use ch_ir::{Access, Array, Op, Program, Stage};
 use std::alloc::Global;
 
 /// A program up to a stage.
-#[derive(Debug, Drop)]
+#[derive(Drop)]
 pub(crate) struct Begun {
     pub width: u32,
     pub arrays: Listed<Array>,
@@ -15,7 +15,7 @@ pub(crate) struct Begun {
 }
 
 /// How far the lines of a program have come.
-#[derive(Debug, Drop)]
+#[derive(Drop)]
 pub(crate) enum Place {
     Start,
     Headed,

@@ -3,7 +3,7 @@ use ch_ir::{Access, Array, Op};
 use thiserror::Error;
 
 /// A line of a program text.
-#[derive(Debug, Drop)]
+#[derive(Drop)]
 pub enum Line {
     /// The first line.
     Header,

@@ -68,7 +68,7 @@ fn read_op(alloc: Global, text: &[u8]) -> Result<Op, LineError>
 }
 
 /// The entry that an access takes, and what it asks of it.
-#[derive(Clone, Copy, Debug)]
+#[derive(Clone, Copy)]
 pub(crate) struct Asked {
     pub array: u32,
     pub index: Operand,

@@ -15,7 +15,7 @@ use ch_cells::Memory;
 use ch_ir::{Access, Array, Op};
 
 /// A line that is lent.
-#[derive(Clone, Copy, Debug)]
+#[derive(Clone, Copy)]
 pub enum LineRef<'a> {
     Header,
     Width(u32),

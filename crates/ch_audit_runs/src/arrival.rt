@@ -11,7 +11,7 @@ use ch_protocol::NoteFate;
 use ch_trace_lines::Noted;
 
 /// A row that the master received.
-#[derive(Clone, Copy, Debug, PartialEq, Eq)]
+#[derive(Clone, Copy)]
 pub(crate) struct Arrival {
     pub(crate) pass: u8,
     pub(crate) worker: u16,

@@ -14,7 +14,6 @@ use ch_cells::{Bytes, Memory};
 use std::alloc::Global;
 
 /// What a trace comes to.
-#[derive(Debug)]
 pub enum Checked {
     /// It is accepted: what is said of it.
     Accepted(Bytes),

@@ -16,7 +16,7 @@ use ch_trace_lines::{Ending, Line, LineError, Noted, cut_line, read_line};
 use std::alloc::Global;
 
 /// What a line comes to.
-#[derive(Clone, Copy, Debug, PartialEq, Eq)]
+#[derive(Clone, Copy)]
 pub(crate) enum Found {
     /// The trace goes on behind it.
     Next,
@@ -29,7 +29,7 @@ pub(crate) enum Found {
 }
 
 /// What a text comes to.
-#[derive(Clone, Copy, Debug, PartialEq, Eq)]
+#[derive(Clone, Copy)]
 pub(crate) enum Walked {
     /// A trace of so many events.
     Whole(usize),

@@ -11,7 +11,7 @@ use std::alloc::Global;
 
 /// What stands at a column reference: what it stands for, and whether what begins there compares kinds that don't suit
 /// each other.
-#[derive(Clone, Copy, Debug, PartialEq, Eq)]
+#[derive(Clone, Copy)]
 pub(crate) struct Reference {
     pub(crate) found: Found,
     pub(crate) clash: bool,

@@ -27,7 +27,7 @@ pub(crate) struct Scope {
 }
 
 /// What a name stands for.
-#[derive(Clone, Copy, Debug, PartialEq, Eq)]
+#[derive(Clone, Copy)]
 pub(crate) enum Found {
     Nowhere,
     Twice,

@@ -6,7 +6,6 @@ use ch_tables::Table;
 use std::alloc::Global;
 
 /// What binding has to know of a table: its name, and the names and the kinds of its columns.
-#[derive(Debug)]
 pub struct TableShape {
     pub name: Bytes,
     pub header: Header,

@@ -26,7 +26,7 @@ impl Drop for Cell {
 }
 
 /// What the cells of a column are. A column without rows is `Void`.
-#[derive(Clone, Copy, Debug, PartialEq, Eq)]
+#[derive(Clone, Copy, PartialEq, Eq)]
 pub enum Kind {
     Number,
     Text,

@@ -2,7 +2,7 @@ use crate::listed::Listed;
 use crate::row::{Header, Row};
 
 /// What a run counts. A count that has reached `u64::MAX` stays there.
-#[derive(Clone, Copy, Debug, PartialEq, Eq)]
+#[derive(Clone, Copy)]
 pub struct Counts {
     /// The rows of all workers.
     pub rows: u64,
@@ -17,7 +17,7 @@ pub struct Counts {
 }
 
 /// A worker whose end isn't acknowledged in the current pass.
-#[derive(Debug, PartialEq, Eq, Drop)]
+#[derive(Drop)]
 pub struct OpenFlow {
     pub pass: u8,
     pub worker: u16,
@@ -30,7 +30,7 @@ pub struct OpenFlow {
 }
 
 /// The answer of a query.
-#[derive(Debug, PartialEq, Eq, Drop)]
+#[derive(Drop)]
 pub struct Answer {
     pub header: Header,
     /// Each with as many cells as the header has names.

@@ -35,7 +35,6 @@ impl Ending {
 }
 
 /// What a command comes to: how it ends, and what it writes on out and on err.
-#[derive(Debug)]
 pub struct Outcome {
     pub ending: Ending,
     pub out: Bytes,

@@ -6,7 +6,6 @@ use ch_cells::{Bytes, Memory};
 use std::alloc::{AllocError, AllocFailed, Global};
 
 /// What a command has to say.
-#[derive(Debug)]
 pub enum Verdict {
     Said(Outcome),
     /// A file wasn't read, with the line that names it.

@@ -6,7 +6,7 @@ use std::alloc::Global;
 use std::marker::Model;
 
 /// A list of bits of fixed length, 64 to a word.
-#[derive(Debug, Drop)]
+#[derive(Drop)]
 pub struct Bits {
     len: usize,
     words: Vec<u64>,

@@ -12,7 +12,7 @@ use std::alloc::Global;
 use std::marker::Model;
 
 /// The master's half of the protocol: which rows and Fins it has received, a bit for each.
-#[derive(Debug, Drop)]
+#[derive(Drop)]
 pub struct Master {
     first: Vec<Bits>,
     second: Vec<Bits>,

@@ -10,7 +10,7 @@ use std::marker::Model;
 /// A worker's half of the protocol: which of its numbers it may send, and which are acknowledged to it.
 ///
 /// With n rows its numbers are 0 to n, and n is its Fin.
-#[derive(Debug, Drop)]
+#[derive(Drop)]
 pub struct Worker {
     rows: u32,
     window: u32,

@@ -1,7 +1,7 @@
 use ch_cells::Listed;
 
 /// A row that the master received, with the worker that sent it and its number.
-#[derive(Debug, Drop)]
+#[derive(Drop)]
 pub struct Arrived {
     pub worker: u16,
     pub side: u8,

@@ -10,7 +10,7 @@ use std::alloc::Global;
 use std::marker::Model;
 
 /// Rows of one width, in the order in which they came.
-#[derive(Debug, Drop)]
+#[derive(Drop)]
 pub struct Rows {
     /// The rows end to end.
     words: Vec<i64>,
@@ -90,7 +90,7 @@ impl Rows {
 }
 
 /// Rows in ascending order, of words that are lent.
-#[derive(Debug, Drop)]
+#[derive(Drop)]
 pub struct Sorted<'a> {
     words: &'a [i64],
     width: usize,

@@ -18,7 +18,7 @@ use ch_word_cells::holds_on_row;
 use std::alloc::Global;
 
 /// What is kept of the rows of a filter: what those that hold print.
-#[derive(Debug, Drop)]
+#[derive(Drop)]
 pub struct FilterFold {
     /// Where the printed words stand in a row.
     places: Listed<usize>,

@@ -18,7 +18,7 @@ use ch_word_cells::carried_of;
 use std::alloc::Global;
 
 /// What is kept of the rows of a join: all words of the rows of both tables, with their keys in front.
-#[derive(Debug, Drop)]
+#[derive(Drop)]
 pub struct JoinFold {
     /// Where the kept words stand in a row of each table.
     left_places: Listed<usize>,

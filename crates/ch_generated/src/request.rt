@@ -5,7 +5,7 @@ ghost use Rattle.ch_generated.specs.Request.{positive, request_of, request_with,
 use ch_numbers::natural;
 
 /// What is asked of the tables.
-#[derive(Clone, Copy, Debug, PartialEq, Eq)]
+#[derive(Clone, Copy, PartialEq, Eq)]
 pub enum InputKind {
     Filter,
     Distinct,
@@ -17,7 +17,7 @@ pub enum InputKind {
 }
 
 /// Which inputs are made.
-#[derive(Clone, Copy, Debug, PartialEq, Eq)]
+#[derive(Clone, Copy)]
 pub struct Request {
     pub seed: u64,
     /// The rows of table `t`, from 1 to 1,000,000.

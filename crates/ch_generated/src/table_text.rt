@@ -10,7 +10,7 @@ use rand_pcg::Lcg64Xsh32;
 use std::alloc::Global;
 
 /// A row of table `t`.
-#[derive(Clone, Copy, Debug, PartialEq, Eq)]
+#[derive(Clone, Copy)]
 pub struct TableRow {
     pub k: u32,
     pub v: u32,

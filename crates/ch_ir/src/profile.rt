@@ -2,7 +2,7 @@ ghost use Rattle.std.specs.Prelude.{◌≡◌};
 ghost use Rattle.ch_ir.specs.Profile.{default_settings};
 
 /// The limits of the switch and the sizes of the operators.
-#[derive(Clone, Copy, Debug, PartialEq, Eq)]
+#[derive(Clone, Copy, Debug)]
 pub struct Profile {
     /// Stages of a program.
     pub stages: u32,

@@ -1,7 +1,7 @@
 use ch_cells::Listed;
 
 /// A word of the row or of an earlier op or access, or a constant.
-#[derive(Clone, Copy, Debug, PartialEq, Eq)]
+#[derive(Clone, Copy, Debug)]
 pub enum Operand {
     Word(u32),
     Const(i64),
@@ -40,7 +40,7 @@ pub enum Op {
 }
 
 /// What an access asks of the entry. Cell 0 is the mark where a test uses one, and an entry with mark 0 is free.
-#[derive(Clone, Copy, Debug, PartialEq, Eq)]
+#[derive(Clone, Copy, Debug)]
 pub enum Test {
     Always,
     /// The mark isn't 0, and the cells 1 to n equal the key.
@@ -52,7 +52,7 @@ pub enum Test {
 }
 
 /// What becomes of a cell.
-#[derive(Clone, Copy, Debug, PartialEq, Eq)]
+#[derive(Clone, Copy, Debug)]
 pub enum Update {
     Keep,
     Put(Operand),
@@ -84,7 +84,7 @@ pub struct Access {
 }
 
 /// An array of registers: its number of entries, and the cells of each.
-#[derive(Clone, Copy, Debug, PartialEq, Eq)]
+#[derive(Clone, Copy, Debug)]
 pub struct Array {
     pub entries: u32,
     pub cells: u32,

@@ -11,7 +11,7 @@ pub enum LimitName {
 }
 
 /// What a program needs of each limit.
-#[derive(Clone, Copy, Debug, PartialEq, Eq)]
+#[derive(Clone, Copy, Debug)]
 pub struct Sizes {
     pub width: u32,
     /// The greatest number of cells of an array.
@@ -24,7 +24,7 @@ pub struct Sizes {
 }
 
 /// The least and the greatest value that a word can have.
-#[derive(Clone, Copy, Debug, PartialEq, Eq)]
+#[derive(Clone, Copy)]
 pub struct Interval {
     pub low: i64,
     pub high: i64,

@@ -4,7 +4,7 @@ ghost use Rattle.ch_outside.specs.FaultPlan.{fails_next, after_call};
 use std::marker::Model;
 
 /// Which calls of an object in memory fail, how many there were, and how many of them failed.
-#[derive(Debug, Drop)]
+#[derive(Drop)]
 pub(crate) struct FaultPlan {
     fail: Vec<u32>,
     calls: u64,

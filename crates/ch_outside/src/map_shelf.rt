@@ -11,7 +11,6 @@ use std::alloc::Global;
 use std::marker::Model;
 
 /// Files in memory, whose calls fail where they are told to.
-#[derive(Debug)]
 pub struct MapShelf {
     files: Vec<(String, Bytes)>,
     plan: FaultPlan,

@@ -10,7 +10,6 @@ use std::alloc::Global;
 use std::marker::Model;
 
 /// A sink in memory, whose calls fail where they are told to.
-#[derive(Debug)]
 pub struct VecSink {
     bytes: Vec<u8>,
     plan: FaultPlan,

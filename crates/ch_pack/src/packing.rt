@@ -14,7 +14,7 @@ use ch_verify::{Checked, verify};
 use std::alloc::Global;
 
 /// Several plans in one program: the word that selects one of them by its number, and the first array of each.
-#[derive(Debug, Drop)]
+#[derive(Drop)]
 pub struct Packed {
     pub checked: Checked,
     pub selector: u32,

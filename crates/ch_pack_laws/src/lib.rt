@@ -16,7 +16,7 @@ ghost use Rattle.ch_pack_laws.specs.Worked.{TwoPacked};
 
 /// Where a program stands in the packed one. Its given words keep their numbers, and its other words stand later by the
 /// shift; its arrays begin at the base; the chosen word tells whether it is selected.
-#[derive(Clone, Copy, Debug)]
+#[derive(Clone, Copy)]
 pub struct Seat {
     pub width: u32,
     pub shift: u32,

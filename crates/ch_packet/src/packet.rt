@@ -33,7 +33,7 @@ pub enum PacketKind {
 }
 
 /// A packet as it is written.
-#[derive(Debug, Drop)]
+#[derive(Drop)]
 pub struct Packet {
     pub kind: PacketKind,
     /// 1 or 2.

@@ -9,7 +9,7 @@ use crate::packet::{HEAD, MAGIC, PacketKind, VERSION};
 use thiserror::Error;
 
 /// A packet whose words stay in the bytes that it is read from.
-#[derive(Debug, Clone, Copy)]
+#[derive(Clone, Copy)]
 pub struct PacketView<'a> {
     pub kind: PacketKind,
     pub pass: u8,

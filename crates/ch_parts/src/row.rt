@@ -15,7 +15,7 @@ use std::alloc::Global;
 use std::mem;
 
 /// Which part of a side's table is a worker's, and how many rows it has.
-#[derive(Clone, Copy, Debug)]
+#[derive(Clone, Copy)]
 pub struct Source {
     pub side: u8,
     pub part: u32,
@@ -23,7 +23,7 @@ pub struct Source {
 }
 
 /// A packet without its words.
-#[derive(Clone, Copy, Debug)]
+#[derive(Clone, Copy)]
 pub(crate) struct Head {
     pub kind: PacketKind,
     pub pass: u8,

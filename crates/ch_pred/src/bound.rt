@@ -7,14 +7,14 @@ use crate::pred::{BoundPred, Col};
 use ch_cells::{Header, Kind, Listed};
 
 /// A dimension of a skyline: its column, and whether the greatest value is best.
-#[derive(Clone, Copy, Debug, PartialEq, Eq)]
+#[derive(Clone, Copy, PartialEq, Eq)]
 pub struct Dim {
     pub col: Col,
     pub max: bool,
 }
 
 /// The kind of a query, with what that kind alone has.
-#[derive(Debug, PartialEq, Eq)]
+#[derive(PartialEq, Eq)]
 pub enum Shape {
     Filter,
     Distinct,
@@ -78,7 +78,7 @@ impl Drop for Shape {
 }
 
 /// What stands in a column of the answer.
-#[derive(Clone, Copy, Debug, PartialEq, Eq)]
+#[derive(Clone, Copy, PartialEq, Eq)]
 pub enum Printed {
     Column(Col),
     /// The greatest or least value of a group.
@@ -87,7 +87,7 @@ pub enum Printed {
 
 /// A query whose names are bound to tables and columns. `tables`, `carried` and `kinds` have one entry for each side,
 /// the first table's first.
-#[derive(Debug, PartialEq)]
+#[derive(PartialEq)]
 pub struct Bound {
     /// The numbers of the query's tables.
     pub tables: Listed<u32>,

@@ -8,7 +8,7 @@ use ch_ir::{Binary, Op, Operand, Program, Stage};
 use std::alloc::Global;
 
 /// Prunes exactly the rows that don't pass its front.
-#[derive(Debug, Drop)]
+#[derive(Drop)]
 pub struct Filter {
     front: Front,
     ops: u32,

@@ -4,7 +4,7 @@ ghost use Rattle.ch_prune.specs.Fronts.{front_operand};
 use ch_ir::Operand;
 
 /// The front of an operator: which rows pass to it. Of each side it passes exactly the rows whose bit is set.
-#[derive(Clone, Copy, Debug)]
+#[derive(Clone, Copy)]
 pub struct Front;
 
 impl Front {

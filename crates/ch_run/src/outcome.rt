@@ -13,7 +13,6 @@ use ch_engine::Engine;
 use std::alloc::Global;
 
 /// What a run has come to.
-#[derive(Debug)]
 pub enum Outcome {
     /// The last pass is confirmed.
     Done(Counts),

@@ -8,7 +8,7 @@ use ch_cells::Memory;
 use std::alloc::Global;
 
 /// A line that says something.
-#[derive(Debug, Drop)]
+#[derive(Drop)]
 pub enum Line {
     Step(Step),
     /// The run goes on until all is confirmed.

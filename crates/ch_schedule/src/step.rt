@@ -55,7 +55,7 @@ impl Drop for Step {
 }
 
 /// What drives a run.
-#[derive(Debug, Drop)]
+#[derive(Drop)]
 pub struct Schedule {
     pub steps: Listed<Step>,
     /// Whether the run then goes on until all is confirmed.

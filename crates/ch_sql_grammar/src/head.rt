@@ -2,7 +2,7 @@ use crate::query::{ColumnRef, Item, Source};
 use ch_cells::{Bytes, Listed};
 
 /// What stands before the filter: for a semi-join the filter behind its AND.
-#[derive(Debug, Drop)]
+#[derive(Drop)]
 pub struct Head {
     pub distinct: bool,
     pub items: Listed<Item>,

@@ -5,7 +5,7 @@ use ch_cells::{Bytes, Listed};
 use ch_pred::{Cmp, Literal};
 
 /// A column as a query names it, with or without its table.
-#[derive(Debug, PartialEq, Eq)]
+#[derive(PartialEq, Eq)]
 pub struct ColumnRef {
     pub table: Option<Bytes>,
     pub name: Bytes,
@@ -18,7 +18,7 @@ impl Drop for ColumnRef {
 }
 
 /// What a column is compared with.
-#[derive(Debug, Drop, PartialEq, Eq)]
+#[derive(Drop, PartialEq, Eq)]
 pub enum Side {
     Column(ColumnRef),
     Value(Literal),
@@ -26,7 +26,7 @@ pub enum Side {
 
 /// A predicate as a query writes it. No node stands for parentheses, and an `And` or an `Or` has
 /// two members or more.
-#[derive(Debug, PartialEq)]
+#[derive(PartialEq)]
 pub enum Pred {
     Compare(ColumnRef, Cmp, Side),
     /// Both ends are within.
@@ -53,7 +53,7 @@ impl Drop for Pred {
 }
 
 /// What a query selects. A `Star` is all columns of the source.
-#[derive(Debug, Drop, PartialEq, Eq)]
+#[derive(Drop, PartialEq, Eq)]
 pub enum Item {
     Star,
     Column(ColumnRef),
@@ -62,7 +62,7 @@ pub enum Item {
 }
 
 /// Where a query's rows come from.
-#[derive(Debug, PartialEq, Eq)]
+#[derive(PartialEq, Eq)]
 pub enum Source {
     One(Bytes),
     Join {
@@ -115,27 +115,27 @@ impl Source {
     }
 }
 
-#[derive(Debug, Drop, PartialEq, Eq)]
+#[derive(Drop, PartialEq, Eq)]
 pub enum Agg {
     Sum(ColumnRef),
     Count,
 }
 
-#[derive(Debug, Drop, PartialEq, Eq)]
+#[derive(Drop, PartialEq, Eq)]
 pub struct Having {
     pub agg: Agg,
     pub above: i64,
 }
 
 /// A dimension of a skyline: whether more is better.
-#[derive(Debug, Drop, PartialEq, Eq)]
+#[derive(Drop, PartialEq, Eq)]
 pub struct SkyDim {
     pub col: ColumnRef,
     pub max: bool,
 }
 
 /// What stands behind the source and the filter.
-#[derive(Debug, PartialEq, Eq)]
+#[derive(PartialEq, Eq)]
 pub enum Tail {
     Nothing,
     Top {
@@ -168,7 +168,7 @@ impl Drop for Tail {
 }
 
 /// A query as it is written, before its names are bound.
-#[derive(Debug, PartialEq)]
+#[derive(PartialEq)]
 pub struct Query {
     pub distinct: bool,
     pub items: Listed<Item>,

@@ -5,7 +5,7 @@ ghost use Rattle.ch_sql_text.specs.Layout.{is_spaced, last_mark};
 use ch_sql_grammar::Mark;
 
 /// What kind of token stands last.
-#[derive(Clone, Copy, Debug, PartialEq, Eq)]
+#[derive(Clone, Copy, PartialEq, Eq)]
 pub enum Last {
     /// None, `(` or `.`.
     Open,

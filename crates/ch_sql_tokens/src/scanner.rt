@@ -14,7 +14,7 @@ use std::alloc::Global;
 pub const MAX_QUERY_BYTES: usize = 16384;
 
 /// What stands at the front of a text that doesn't begin with a blank.
-#[derive(Debug, Drop)]
+#[derive(Drop)]
 pub enum Front {
     /// The longest token, and how many bytes it takes.
     Found(Token, usize),

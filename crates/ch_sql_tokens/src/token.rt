@@ -19,7 +19,7 @@ pub enum Symbol {
 
 /// A token of a query text. A quoted name and a text stand without their quotes, and each quote
 /// that was doubled in them stands once.
-#[derive(Debug, Drop, PartialEq, Eq)]
+#[derive(Drop)]
 pub enum Token {
     Word(Bytes),
     Quoted(Bytes),

@@ -9,7 +9,7 @@ use ch_cells::{Memory, read_number};
 use std::alloc::Global;
 
 /// A column as words.
-#[derive(Debug, Drop)]
+#[derive(Drop)]
 pub(crate) enum Column {
     /// Each word is the cell.
     Numbers(Vec<i64>),

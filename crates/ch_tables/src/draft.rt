@@ -16,7 +16,7 @@ use csv::{ByteRecord, Reader};
 use std::alloc::Global;
 
 /// The rows of a part: from the row `from` of the table on, up to the row `to`.
-#[derive(Clone, Copy, Debug, PartialEq, Eq)]
+#[derive(Clone, Copy)]
 pub(crate) struct Span {
     pub from: u32,
     pub to: u32,

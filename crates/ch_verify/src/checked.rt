@@ -6,7 +6,7 @@ use ch_ir::Program;
 use std::marker::Model;
 
 /// A program that breaks no rule. Contracts see it as the program.
-#[derive(Debug, Drop)]
+#[derive(Drop)]
 pub struct Checked {
     program: Program,
 }

@@ -8,7 +8,7 @@ use cheetah_words::{Asked, tables_in};
 use std::alloc::Global;
 
 /// What is to be done.
-#[derive(Clone, Copy, Debug, PartialEq, Eq)]
+#[derive(Clone, Copy)]
 pub enum Task {
     /// A run is written down.
     Write,
@@ -17,7 +17,6 @@ pub enum Task {
 }
 
 /// What the words of the command ask for.
-#[derive(Debug)]
 pub struct Errand<'a> {
     pub task: Task,
     /// The file of the schedule or of the trace stands as its schedule's.

@@ -9,7 +9,7 @@ use clap::{Arg, ArgMatches, Command, Error};
 use std::alloc::{AllocError, Global};
 
 /// What the words of the command ask for.
-#[derive(Clone, Copy, Debug)]
+#[derive(Clone, Copy)]
 pub struct Asked<'a> {
     /// The profile's file, where one is named.
     pub profile: Option<&'a str>,

@@ -8,7 +8,7 @@ use std::alloc::Global;
 use std::collections::VecDeque;
 
 /// The text of a part of the table of this name.
-#[derive(Debug, Drop)]
+#[derive(Drop)]
 pub(crate) struct PartText<'a> {
     pub(crate) name: &'a str,
     pub(crate) text: Bytes,

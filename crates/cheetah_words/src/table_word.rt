@@ -7,7 +7,7 @@ use ch_command::Misuse;
 use std::alloc::Global;
 
 /// A word that names a part of a table: `NAME=FILE`.
-#[derive(Clone, Copy, Debug, PartialEq, Eq)]
+#[derive(Clone, Copy)]
 pub struct TableWord<'a> {
     pub name: &'a str,
     pub file: &'a str,

@@ -8,7 +8,6 @@ use ch_command::Misuse;
 use std::alloc::Global;
 
 /// What the words of the command ask for.
-#[derive(Debug)]
 pub struct Asked<'a> {
     /// The query's text.
     pub query: &'a str,

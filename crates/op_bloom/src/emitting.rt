@@ -10,7 +10,7 @@ use op_moves::{Builder, always};
 use std::alloc::Global;
 
 /// Where a hash stands: its number, its first word, and the word that tells whether the row is bad so far.
-#[derive(Clone, Copy, Debug)]
+#[derive(Clone, Copy)]
 struct Place {
     hash: u32,
     base: u32,

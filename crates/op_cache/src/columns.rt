@@ -11,7 +11,7 @@ use std::alloc::Global;
 
 /// Where the columns of a list stand: how many there are, their first array and word, the word of the gate, and the word of
 /// the hash row.
-#[derive(Clone, Copy, Debug)]
+#[derive(Clone, Copy)]
 pub struct Columns {
     pub cols: u32,
     pub array: u32,

@@ -8,7 +8,7 @@ use ch_prune::{Front, Need, OnePass, Operator};
 use std::alloc::Global;
 
 /// Prunes the rows whose key is among the latest of its hash row.
-#[derive(Debug, Drop)]
+#[derive(Drop)]
 pub struct Distinct {
     front: Front,
     ops: u32,

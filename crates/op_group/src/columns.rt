@@ -13,7 +13,7 @@ use std::alloc::Global;
 
 /// Where a column of the pairs stands: its array, its first word, and the words of its gate, of the hash row, of the value,
 /// and of whether a column before has pruned.
-#[derive(Clone, Copy, Debug)]
+#[derive(Clone, Copy)]
 pub(crate) struct Place {
     pub array: u32,
     pub base: u32,

@@ -8,7 +8,7 @@ use ch_prune::{Front, Need, OnePass, Operator};
 use std::alloc::Global;
 
 /// Prunes the rows whose key is listed with a best that is no worse.
-#[derive(Debug, Drop)]
+#[derive(Drop)]
 pub struct Group {
     front: Front,
     ops: u32,

@@ -13,7 +13,6 @@ use std::alloc::Global;
 
 /// Prunes, in the second pass, the rows of keys whose sum, or number of rows, can't be above a number. In the first pass it
 /// adds what each row counts to one sum a hash, which keys may share: so no sum is below the key's own.
-#[derive(Debug)]
 pub struct HavingOp {
     front: Front,
     ops: u32,

@@ -1,7 +1,6 @@
 use ch_cells::Listed;
 
 /// All that the policy and the program of a `HavingOp` hang on.
-#[derive(Debug)]
 pub struct Sizes {
     /// How many words a row is given by: pass, side and bit, and then those of the row.
     pub width: u32,

@@ -10,7 +10,7 @@ use std::alloc::Global;
 
 /// Prunes, in the second pass, the rows whose key no row of the other table had in the first. In the first pass it puts each
 /// row's key into its side's Bloom filter.
-#[derive(Debug, Drop)]
+#[derive(Drop)]
 pub struct JoinOp {
     front: Front,
     ops: u32,

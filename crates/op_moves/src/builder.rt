@@ -8,7 +8,7 @@ use ch_ir::{Access, Array, Op, Operand, Stage, Test, Update};
 use std::alloc::Global;
 
 /// A program as it grows: the stages that have ended, and the ops of the next one.
-#[derive(Debug, Drop)]
+#[derive(Drop)]
 pub struct Builder {
     pub stages: Listed<Stage>,
     pub before: Listed<Op>,

@@ -11,7 +11,7 @@ use std::alloc::Global;
 
 /// Prunes, in the second pass, the rows whose key no row of the other table had in the first, as a join does; and the inner
 /// rows whose key it has listed, which tell nothing new.
-#[derive(Debug, Drop)]
+#[derive(Drop)]
 pub struct Semi {
     front: Front,
     ops: u32,

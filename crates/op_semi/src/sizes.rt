@@ -1,7 +1,7 @@
 use op_bloom::Sizes as Filters;
 
 /// All that the policy and the program of a `Semi` hang on.
-#[derive(Clone, Copy, Debug)]
+#[derive(Clone, Copy)]
 pub struct Sizes {
     /// The filters: the outer table is side 0 with its key, the inner one side 1 with the inner key.
     pub bloom: Filters,

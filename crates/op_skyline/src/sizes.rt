@@ -1,7 +1,7 @@
 use ch_cells::Listed;
 
 /// All that the policy and the program of a `Skyline` hang on.
-#[derive(Debug, Drop)]
+#[derive(Drop)]
 pub struct Sizes {
     /// How many words a row is given by: pass, side and bit, and then those of the row.
     pub width: u32,

@@ -10,7 +10,7 @@ use ch_prune::{Front, Need, OnePass, Operator};
 use std::alloc::Global;
 
 /// Prunes a row whose point a stored one dominates. It stores the points of the greatest sums so far.
-#[derive(Debug, Drop)]
+#[derive(Drop)]
 pub struct Skyline {
     front: Front,
     ops: u32,

@@ -1,5 +1,5 @@
 /// All that the policy and the program of a `TopN` hang on.
-#[derive(Clone, Copy, Debug)]
+#[derive(Clone, Copy)]
 pub struct Sizes {
     /// How many words a row is given by: pass, side and bit, and then those of the row.
     pub width: u32,

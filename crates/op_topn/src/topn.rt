@@ -11,7 +11,7 @@ use std::alloc::Global;
 /// Prunes a row that can't be among the first of ORDER BY with LIMIT: as many rows as are printed came before it with a
 /// better value. It tells by the least of the first values, and by thresholds above it, each with the number of later values
 /// that reached it.
-#[derive(Debug, Drop)]
+#[derive(Drop)]
 pub struct TopN {
     front: Front,
     ops: u32,
