@@ -3,7 +3,7 @@ use ch_asm::read_program;
 use ch_cells::Memory;
 use ch_ir::{Program, cells_of, default_profile, entries_of};
 use ch_pipe::Pipe;
-use ch_verify::{is_countable, verify};
+use ch_verify::{Checked, is_countable, verify};
 use std::alloc::Global;
 
 /// The program whose text has these lines between its first and its last.
@@ -19,14 +19,19 @@ pub(crate) fn program(alloc: Global, lines: &str) -> anyhow::Result<Program> {
     Ok(read_program(alloc, text.as_slice())?)
 }
 
-/// The program in a pipeline.
-pub(crate) fn installed(alloc: Global, lines: &str) -> anyhow::Result<Pipe> {
+/// The program, checked under the default profile.
+pub(crate) fn checked(alloc: Global, lines: &str) -> anyhow::Result<Checked> {
     let program = program(alloc, lines)?;
     if !is_countable(&program) {
         drop(program);
         return Err(Memory.into());
     }
-    let checked = verify(alloc, program, &default_profile())?;
+    Ok(verify(alloc, program, &default_profile())?)
+}
+
+/// The program in a pipeline.
+pub(crate) fn installed(alloc: Global, lines: &str) -> anyhow::Result<Pipe> {
+    let checked = checked(alloc, lines)?;
     Ok(Pipe::install(alloc, checked)?)
 }
 

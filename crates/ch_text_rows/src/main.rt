@@ -1,25 +1,40 @@
-//! Reads texts of each kind, and writes what comes of each: queries, schedules, profiles, programs, traces.
+//! Reads texts of each kind, and writes what comes of each: queries, schedules, profiles, programs, traces. Reads and writes
+//! packets, drives the two ends of a flow, and writes and checks traces along runs that are told beforehand.
 //!
-//! A line of the input is a word and a text, or numbers:
+//! A line of the input is a word and what belongs to it. `row NAME` begins a row. Of packets and runs:
 //!
-//! - `row NAME` begins a row;
-//! - `repeat N TEXT` puts a text so many times before that of the next line;
-//! - each other word tells how its text is read.
+//! - `spell WORDS` is a row with these words, as bytes, and `ack` an acknowledgement; bytes are in hexadecimal;
+//! - `view BYTES` is the packet that the bytes are, or the field in which they are none, and `epoch N BYTES` the same with
+//!   another epoch;
+//! - `worker ROWS WINDOW; CALLS` is what each call of a worker answers;
+//! - `master` is what a master of two workers answers;
+//! - `told TRACE` tells what the run of the lines behind it notes, with `|` for the end of a line;
+//! - `refused N` is what is said of line N;
+//! - `drained N` is the trace of the told run, which stops behind N events;
+//! - `checked N TRACE` is whether a trace is accepted along that run, and what is said.
 //!
-//! In a text `|` stands for the end of a line, `^` for a carriage return, `~` for a tab, and `$` for a blank.
+//! Each other word is followed by a text, and tells how it is read; `repeat N TEXT` puts a text so many times before that of the
+//! next line. In these texts `|` stands for the end of a line, `^` for a carriage return, `~` for a tab, and `$` for a blank.
 #![tactic(auto)]
 
+mod ends;
 mod lines;
+mod packets;
 mod profiles;
 mod programs;
 mod queries;
+mod runs;
 mod schedules;
+mod told;
 mod traces;
 
+use crate::ends::{master, worker};
 use crate::lines::{fields, is_said_in, lines};
+use crate::packets::{ack, epoch, spell, view_of};
 use crate::profiles::{default_settings, hash, settings};
 use crate::programs::{cut_at, op_line, program, stage, tree};
 use crate::queries::{keyword, terminals, tokens};
+use crate::runs::{checked, drained, refused};
 use crate::schedules::{schedule, steps};
 use crate::traces::{trace_cut, trace_line};
 use std::alloc::Global;
@@ -91,7 +106,8 @@ fn of_lines(alloc: Global, word: &str, text: &[u8]) -> anyhow::Result<String> {
     }
 }
 
-fn answer(alloc: Global, word: &str, text: &[u8]) -> anyhow::Result<String> {
+/// What comes of a text.
+fn of_text(alloc: Global, word: &str, text: &[u8]) -> anyhow::Result<String> {
     match word {
         "tokens" | "keyword" | "terminals" => of_query(alloc, word, text),
         "program" | "stage" | "tree" | "op" | "cut" => of_program(alloc, word, text),
@@ -100,23 +116,69 @@ fn answer(alloc: Global, word: &str, text: &[u8]) -> anyhow::Result<String> {
     }
 }
 
+/// What comes of a packet, or of an end of a flow.
+fn of_flow(alloc: Global, word: &str, said: &str) -> anyhow::Result<String> {
+    match word {
+        "spell" => spell(alloc, said),
+        "ack" => ack(alloc),
+        "view" => view_of(alloc, said),
+        "epoch" => epoch(alloc, said),
+        "worker" => worker(alloc, said),
+        _ => master(alloc),
+    }
+}
+
+/// What comes of a trace along the told run.
+fn of_run(alloc: Global, told: &str, word: &str, said: &str) -> anyhow::Result<String> {
+    match word {
+        "refused" => refused(alloc, said),
+        "drained" => drained(alloc, told, said),
+        _ => checked(alloc, told, said),
+    }
+}
+
+/// What belongs to the next line: a text before its own, and the told run.
+#[derive(Drop)]
+struct Before {
+    text: Vec<u8>,
+    told: String,
+}
+
+fn answer(alloc: Global, before: &mut Before, word: &str, said: &str) -> anyhow::Result<String> {
+    match word {
+        "spell" | "ack" | "view" | "epoch" | "worker" | "master" => of_flow(alloc, word, said),
+        "refused" | "drained" | "checked" => of_run(alloc, before.told.as_str(), word, said),
+        _ => {
+            push_text(&mut before.text, said)?;
+            let answer = of_text(alloc, word, before.text.as_slice())?;
+            before.text.clear();
+            Ok(answer)
+        }
+    }
+}
+
 fn main(rt: HostRuntime) -> anyhow::Result<()> {
     let alloc = rt.alloc();
-    let mut text = Vec::new(alloc);
+    let mut before = Before {
+        text: Vec::new(alloc),
+        told: String::new(alloc),
+    };
     for line in rt.lines(alloc) {
         let line = line?;
         let (word, said) = line.split_once(' ').unwrap_or((line.as_str(), ""));
         match word {
             "row" => println!(rt; "{line}")?,
             "repeat" => {
-                push_repeated(&mut text, said)?;
+                push_repeated(&mut before.text, said)?;
+                println!(rt; "{line}")?;
+            }
+            "told" => {
+                before.told = String::from_str(alloc, said)?;
                 println!(rt; "{line}")?;
             }
             _ => {
-                push_text(&mut text, said)?;
-                let answer = answer(alloc, word, text.as_slice())?;
+                let answer = answer(alloc, &mut before, word, said)?;
                 println!(rt; "{line} => {answer}")?;
-                text.clear();
             }
         }
     }

@@ -1,5 +1,5 @@
 //! Spellings, and the order of cells and of rows.
-use crate::reading::{cell_of, cells_of, cut, row_of};
+use crate::reading::{cell_of, cells_of, cut, rows_of};
 use ch_cells::{
     Bytes, Row, cmp_cells, cmp_rows, copy_cell, copy_row, lend_cell, read_number, sort_rows,
 };
@@ -41,14 +41,6 @@ pub(crate) fn bytes(alloc: Global, said: &str) -> anyhow::Result<String> {
     let (itself, other) = (a == a, a != b);
     let (order, back) = (a.cmp(&b), b.partial_cmp(&a));
     Ok(format!(in alloc; "{itself} {other} {order:?} {back:?}\n")?)
-}
-
-fn rows_of(alloc: Global, said: &str) -> anyhow::Result<Vec<Row>> {
-    let mut rows = Vec::new(alloc);
-    for row in said.split('/') {
-        rows.push(row_of(alloc, row)?)?;
-    }
-    Ok(rows)
 }
 
 /// A row, how it compares with the wanted one, whether it is that, and how its copy compares with it.

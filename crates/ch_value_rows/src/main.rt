@@ -1,7 +1,9 @@
-//! Shows the worked rows of cells, predicates, words and what is kept of them, behind each line of its input.
+//! Shows the worked rows of cells, predicates, words and what is kept of them, of tables and what a query asks of them, and of
+//! the texts that are printed, behind each line of its input.
 //!
 //! A line is a word and what belongs to it. A row has `/` between two. Words are numbers with spaces between two of them. A
-//! cell is a text, or a number behind `#`, with `;` between two:
+//! cell is a text, or a number behind `#`, with `;` between two. The parts of a table have `;` between two of them; in these
+//! and in a cell's text `|` stands for the end of a line and `^` for a carriage return:
 //!
 //! - `row NAME` begins the rows of a rule;
 //! - `number TEXT`: the number that is spelled so;
@@ -23,29 +25,63 @@
 //! - `copy PREDICATE`: whether a copy of a query with this filter is equal;
 //! - `ranks TEXTS/TEXTS`: how many different texts the first are, the ranks of the second, and the texts of their places;
 //! - `passes TEXTS/WORD`: whether the row with this rank passes `b LIKE 'x%'`;
-//! - `pair TEXTS/WORD WORD`: whether the pair of rows with these ranks passes `b < c`.
+//! - `pair TEXTS/WORD WORD`: whether the pair of rows with these ranks passes `b < c`;
+//! - `table ROWS CELLS PARTS`: the table `t` that the parts are within this room, or why they are none;
+//! - `table-places ROWS CELLS PARTS`: the words of its cells, and its texts;
+//! - `last ROWS CELLS PARTS`: the words of the last of three rows, by the dictionary of its texts;
+//! - `bits ROWS CELLS PARTS`: whether each of two rows passes `b LIKE 'x%'`, and whether the weak filter passes all;
+//! - `asked-ranks TEXTS ROWS CELLS PARTS`: the ranks of these texts, with `,` between two of them, in the dictionary of
+//!   `SELECT b FROM t WHERE b <> 'm' AND b LIKE 'q%'`;
+//! - `answer NAMES/ROW/ROW..`: the text of an answer, whose names have `;` between two;
+//! - `counts ROWS SENDS PRUNED FORWARDED STEPS`: the line of these counts;
+//! - `report ROWS/FLOW/FLOW..`: the report of an open run, where a flow is `PASS WORKER ACKNOWLEDGED OF NUMBERS`, and `-` is
+//!   no number.
 //!
 //! `predicates.rt` says how a predicate is written.
 #![tactic(auto)]
 
+mod asked;
 mod cells;
 mod flat;
 mod keys;
+mod lists;
 mod places;
 mod pred;
 mod predicates;
+mod printed;
 mod ranks;
 mod reading;
+mod row_words;
+mod tables;
 mod word_cells;
 
+use crate::asked::asked_ranks;
 use crate::cells::{bytes, cells, lend, number, sort};
 use crate::flat::{flat, words_picked};
 use crate::keys::{find, keys};
 use crate::places::{places, repeats};
 use crate::pred::{copy, passed, side_part, weak_filter};
+use crate::printed::{answer, counts, report};
 use crate::ranks::ranks;
+use crate::row_words::{bits, last};
+use crate::tables::{table, table_places};
 use crate::word_cells::{pair, passes};
 use std::alloc::Global;
+
+/// What a line of tables or of printed texts comes to.
+fn table_shown(alloc: Global, word: &str, said: &str) -> anyhow::Result<String> {
+    match word {
+        "table" => table(alloc, said),
+        "table-places" => table_places(alloc, said),
+        "last" => last(alloc, said),
+        "bits" => bits(alloc, said),
+        "asked-ranks" => asked_ranks(alloc, said),
+        "answer" => answer(alloc, said),
+        "counts" => counts(alloc, said),
+        "report" => report(alloc, said),
+        _ => Ok(String::from_str(alloc, "no line of a row\n")?),
+    }
+}
 
 /// What a line of predicates or of ranks comes to.
 fn pred_shown(alloc: Global, word: &str, said: &str) -> anyhow::Result<String> {
@@ -57,7 +93,7 @@ fn pred_shown(alloc: Global, word: &str, said: &str) -> anyhow::Result<String> {
         "ranks" => ranks(alloc, said),
         "passes" => passes(alloc, said),
         "pair" => pair(alloc, said),
-        _ => Ok(String::from_str(alloc, "no line of a row\n")?),
+        _ => table_shown(alloc, word, said),
     }
 }
 

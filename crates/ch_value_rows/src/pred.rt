@@ -1,7 +1,8 @@
 //! Whether a row passes predicates, and what one table can tell of them.
+use crate::lists::one;
 use crate::predicates::{TEXT, pred_of};
 use crate::reading::cut;
-use ch_cells::{Bytes, CellRef, Kind, Listed, Memory};
+use ch_cells::{Bytes, CellRef, Kind, Memory};
 use ch_pred::{Bound, BoundPred, Cells, Printed, Shape, copy_bound, holds, is_exact, part, weak};
 use std::alloc::Global;
 
@@ -79,12 +80,6 @@ pub(crate) fn side_part(alloc: Global, said: &str) -> anyhow::Result<String> {
         return Ok(format!(in alloc; "{same}\n")?);
     }
     Ok(String::new(alloc))
-}
-
-fn one<T: Drop>(alloc: Global, item: T) -> Result<Listed<T>, Memory> {
-    let mut list = Listed::new(alloc);
-    list.push(item)?;
-    Ok(list)
 }
 
 /// A query that counts the rows of each text.

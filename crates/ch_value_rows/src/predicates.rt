@@ -6,8 +6,8 @@
 //!   `COLUMN like TEXT`;
 //! - `and N`, `or N` and `not`: of the last N pieces, or of the last.
 //!
-//! The columns are `a` with a number and `b` with a text, and `c` of the second table. A literal is a number behind `#`, or a
-//! text.
+//! The columns are `a` and `b` of the first table, and `c` of the second. A row that may pass has a number in `a` and a text in
+//! `b`. A literal is a number behind `#`, or a text.
 use crate::reading::cut;
 use ch_cells::Bytes;
 use ch_pred::{Arg, BoundPred, Cmp, Col, Literal};
@@ -18,7 +18,7 @@ pub(crate) const NUMBER: Col = Col { side: 0, at: 0 };
 pub(crate) const TEXT: Col = Col { side: 0, at: 1 };
 
 /// A column of the second table.
-const OTHER: Col = Col { side: 1, at: 0 };
+pub(crate) const OTHER: Col = Col { side: 1, at: 0 };
 
 fn col_of(name: &str) -> Option<Col> {
     match name {

@@ -1,34 +1,15 @@
 //! Filters on the words of rows.
-ghost use Rattle.std.specs.Prelude.{◌≡◌, ◌∷◌, [], length, pos, true, ◌≤ℤ◌, ◌<ℤ◌, IfOk};
+ghost use Rattle.std.specs.Prelude.{◌≡◌, length, pos, true, ◌≤ℤ◌, ◌<ℤ◌};
 
+use crate::lists::{one, two};
+use crate::predicates::{OTHER, TEXT};
 use crate::ranks::dictionary;
 use crate::reading::cut;
-use ch_cells::{Bytes, Kind, Listed, Memory};
-use ch_pred::{Arg, Bound, BoundPred, Cmp, Col, Printed, Shape};
+use ch_cells::{Bytes, Kind, Memory};
+use ch_pred::{Arg, Bound, BoundPred, Cmp, Printed, Shape};
 use ch_ranks::Ranks;
 use ch_word_cells::{holds_on_pair, holds_on_row};
 use std::alloc::Global;
-
-const TEXT: Col = Col { side: 0, at: 1 };
-
-const OTHER: Col = Col { side: 1, at: 0 };
-
-fn one<T: Drop>(alloc: Global, item: T) -> Result<Listed<T>, Memory>
-    ensures { IfOk result (λ list. list ≡ item ∷ []) }
-{
-    let mut list = Listed::new(alloc);
-    list.push(item)?;
-    Ok(list)
-}
-
-fn two<T: Drop>(alloc: Global, first: T, second: T) -> Result<Listed<T>, Memory>
-    ensures { IfOk result (λ list. list ≡ first ∷ second ∷ []) }
-{
-    let mut list = Listed::new(alloc);
-    list.push(first)?;
-    list.push(second)?;
-    Ok(list)
-}
 
 fn is_rank(ranks: &Ranks, word: i64) -> bool
     ensures { result ≡ true → (pos 0 ≤ℤ word) × (word <ℤ pos (length ranks.now)) }

@@ -1,150 +1,102 @@
-//! Runs commands over files in memory, as its input says, and writes the status of each, what it put on out, and behind
-//! `err: ` what it put on err.
+//! Shows the worked rows of whole calls, behind each line of its input: words, files, streams and what is said.
 //!
-//! A line of the input is a word and what belongs to it:
+//! A line is a word and what belongs to it. In a text `|` stands for the end of a line, and it stands between two words of a
+//! command:
 //!
-//! - `row NAME` begins a row, without files and faults;
-//! - `file NAME TEXT` is a file. In its text `|` stands for the end of a line, and `^` for a carriage return;
-//! - `shelf N`, `out N` and `err N` let that call of the shelf or of a sink fail, from 0 on;
-//! - `run WORDS` runs the words, the program's name first, with `|` between two of them;
-//! - `keep NAME` makes a file of what the last run put on out.
+//! - `row NAME` begins a row, without files and faults; `file`, `large`, `keep`, `shelf`, `out` and `err` add to it (`row.rt`);
+//! - `run`, `bare`, `usage`, `begins` and `changed` run a command over the row's files (`runs.rt`, `traces.rt`);
+//! - `watch` follows a run over the row's files step by step (`asking.rt`, `watching.rt`);
+//! - `read`, `end` and `refuse` are of what a command does at its start and its end (`ends.rt`);
+//! - `cheetah`, `pack` and `audit` read the words of that command, and `many` with words behind them (`words.rt`);
+//! - `requested`, `drawn`, `command`, `front` and `summary` are of generated inputs (`generated.rt`);
+//! - `lend`, `put` and `memory` call the row's shelf, its out, and a run over both (`outside.rt`);
+//! - `streams`, `write`, `fill`, `remove`, `disk`, `print` and `over` are of files and streams of the system (`system.rt`).
 #![tactic(auto)]
 
-use ch_cells::{Bytes, Listed};
-use ch_outside::{MapShelf, VecSink};
-use cheetah::cheetah;
-use cheetah_audit::cheetah_audit;
-use cheetah_check::cheetah_check;
-use cheetah_pack::cheetah_pack;
+mod asking;
+mod ends;
+mod generated;
+mod outside;
+mod row;
+mod runs;
+mod system;
+mod traces;
+mod watching;
+mod words;
+
+use crate::asking::watched;
+use crate::ends::{ended, read, refused};
+use crate::generated::{command, drawn, front, requested, summed_up};
+use crate::outside::{lent, memory, put};
+use crate::row::Row;
+use crate::runs::{bare, begins, run, usage};
+use crate::system::{disk, fill, over, print, remove, streams, write};
+use crate::traces::changed;
+use crate::words::{Command, many, words};
 use std::alloc::Global;
-use std::str;
 
-/// A file's name and its bytes.
-#[derive(Drop)]
-struct File {
-    name: String,
-    bytes: Bytes,
-}
-
-/// The files of a row, and the calls of its shelf and sinks that fail.
-#[derive(Drop)]
-struct Row {
-    files: Vec<File>,
-    shelf: Vec<u32>,
-    out: Vec<u32>,
-    err: Vec<u32>,
-}
-
-impl Row {
-    fn new(alloc: Global) -> Row {
-        Row {
-            files: Vec::new(alloc),
-            shelf: Vec::new(alloc),
-            out: Vec::new(alloc),
-            err: Vec::new(alloc),
-        }
+/// What a line of generated inputs, or of shelf and sinks, comes to.
+fn parts_shown(alloc: Global, row: &Row, word: &str, said: &str) -> anyhow::Result<String> {
+    match word {
+        "requested" => requested(alloc, said),
+        "drawn" => drawn(alloc, said),
+        "command" => command(alloc, said),
+        "front" => front(alloc, said),
+        "summary" => summed_up(alloc, said),
+        "lend" => lent(alloc, row, said),
+        "put" => put(alloc, row, said),
+        "memory" => memory(alloc, said),
+        _ => Ok(String::from_str(alloc, "no line of a row\n")?),
     }
 }
 
-/// What a run came to.
-#[derive(Drop)]
-struct Ran {
-    status: u8,
-    out: Bytes,
-    err: Bytes,
-}
-
-/// The bytes of a text whose line ends are written as `|` and whose carriage returns as `^`.
-fn bytes_of(alloc: Global, text: &str) -> anyhow::Result<Bytes> {
-    let mut bytes = Vec::new(alloc);
-    for byte in text.as_bytes() {
-        bytes.push(match *byte {
-            b'|' => b'\n',
-            b'^' => b'\r',
-            other => other,
-        })?;
+/// What a line of words, or of what is read and said, comes to.
+fn calls_shown(alloc: Global, row: &mut Row, word: &str, said: &str) -> anyhow::Result<String> {
+    match word {
+        "run" => run(alloc, row, said),
+        "bare" => bare(alloc, row, said),
+        "usage" => usage(alloc, row, said),
+        "begins" => begins(alloc, row, said),
+        "changed" => changed(alloc, row, said),
+        "watch" => watched(alloc, row, said),
+        "read" => read(alloc, row, said),
+        "end" => ended(alloc, row, said),
+        "refuse" => refused(alloc, said),
+        "cheetah" => words(alloc, Command::Cheetah, said),
+        "pack" => words(alloc, Command::Pack, said),
+        "audit" => words(alloc, Command::Audit, said),
+        "many" => many(alloc, said),
+        _ => parts_shown(alloc, row, word, said),
     }
-    Ok(Bytes::from_vec(bytes))
 }
 
-fn words_of(alloc: Global, text: &str) -> anyhow::Result<Listed<String>> {
-    let mut words = Listed::new(alloc);
-    for word in text.split('|') {
-        words.push(String::from_str(alloc, word)?)?;
+/// What a line comes to.
+fn shown(rt: &HostRuntime, row: &mut Row, word: &str, said: &str) -> anyhow::Result<String> {
+    match word {
+        "streams" => streams(rt),
+        "write" => write(rt, said),
+        "fill" => fill(rt, said),
+        "remove" => remove(rt),
+        "disk" => disk(rt, said),
+        "print" => print(rt, said),
+        "over" => over(rt, row, said),
+        _ => calls_shown(rt.alloc(), row, word, said),
     }
-    Ok(words)
-}
-
-fn shelf_of(alloc: Global, row: &Row) -> anyhow::Result<MapShelf> {
-    let mut files = Vec::new(alloc);
-    for file in &row.files {
-        let bytes = Bytes::from_slice(alloc, file.bytes.as_slice())?;
-        files.push((String::from_str(alloc, file.name.as_str())?, bytes))?;
-    }
-    Ok(MapShelf::new(files, Vec::from_slice(alloc, row.shelf.as_slice())?))
-}
-
-fn run(alloc: Global, row: &Row, text: &str) -> anyhow::Result<Ran> {
-    let words = words_of(alloc, text)?;
-    let mut shelf = shelf_of(alloc, row)?;
-    let mut out = VecSink::new(alloc, Vec::from_slice(alloc, row.out.as_slice())?);
-    let mut err = VecSink::new(alloc, Vec::from_slice(alloc, row.err.as_slice())?);
-    let status = match text.split_once('|').map(|cut| cut.0) {
-        Some("cheetah_audit") => cheetah_audit(alloc, &words, &mut shelf, &mut out, &mut err),
-        Some("cheetah_check") => cheetah_check(alloc, &words, &mut shelf, &mut out, &mut err),
-        Some("cheetah_pack") => cheetah_pack(alloc, &words, &mut shelf, &mut out, &mut err),
-        _ => cheetah(alloc, &words, &mut shelf, &mut out, &mut err),
-    };
-    Ok(Ran {
-        status,
-        out: Bytes::from_slice(alloc, out.bytes())?,
-        err: Bytes::from_slice(alloc, err.bytes())?,
-    })
-}
-
-/// A number and that call; none for what is no number.
-fn call_of(text: &str) -> Option<u32> {
-    text.parse::<u32>().ok()
-}
-
-/// Puts the file of a line into the row: its name, and behind a space its text.
-fn put_file(alloc: Global, row: &mut Row, said: &str) -> anyhow::Result<()> {
-    let (name, text) = said.split_once(' ').unwrap_or((said, ""));
-    let name = String::from_str(alloc, name)?;
-    let bytes = bytes_of(alloc, text)?;
-    row.files.push(File { name, bytes })?;
-    Ok(())
 }
 
 fn main(rt: HostRuntime) -> anyhow::Result<()> {
     let alloc = rt.alloc();
     let mut row = Row::new(alloc);
-    let mut kept = Bytes::from_vec(Vec::new(alloc));
     for line in rt.lines(alloc) {
         let line = line?;
         let (word, said) = line.split_once(' ').unwrap_or((line.as_str(), ""));
-        match word {
-            "row" => {
-                row = Row::new(alloc);
-                println!(rt; "row {said}")?;
-            }
-            "file" => put_file(alloc, &mut row, said)?,
-            "shelf" => row.shelf.extend(call_of(said))?,
-            "out" => row.out.extend(call_of(said))?,
-            "err" => row.err.extend(call_of(said))?,
-            "keep" => {
-                let name = String::from_str(alloc, said)?;
-                let bytes = Bytes::from_slice(alloc, kept.as_slice())?;
-                row.files.push(File { name, bytes })?;
-            }
-            "run" => {
-                let ran = run(alloc, &row, said)?;
-                let out = str::from_utf8(ran.out.as_slice())?;
-                let err = str::from_utf8(ran.err.as_slice())?;
-                println!(rt; "{said}\nstatus {}\n{out}err: {err}", ran.status)?;
-                kept = Bytes::from_slice(alloc, ran.out.as_slice())?;
-            }
-            _ => println!(rt; "no line of a row: {line}")?,
+        if word == "row" {
+            row = Row::new(alloc);
+            println!(rt; "{line}")?;
+        } else if !row.takes(alloc, word, said)? {
+            println!(rt; "{line}")?;
+            let text = shown(&rt, &mut row, word, said)?;
+            print!(rt; "{text}")?;
         }
     }
     Ok(())

@@ -1,5 +1,0 @@
-use Rattle.ch_switch_rows.specs.Takes.{TakesAWord}
-use Rattle.ch_switch_rows.proofs.meets.switch.Given as goal
-
-abbrev pub invariant-loop-call : goal.invariant-loop-call
-invariant-loop-call l = TakesAWord l.switch

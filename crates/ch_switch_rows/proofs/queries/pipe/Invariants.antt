@@ -1,5 +1,0 @@
-use Rattle.std.proofs.Common.{◌≡◌}
-use Rattle.ch_switch_rows.proofs.queries.pipe.Given as goal
-
-abbrev pub invariant-loop-said : goal.invariant-loop-said
-invariant-loop-said l = l.pipe.program.width ≡ 6
