@@ -89,7 +89,7 @@ fn shown(alloc: Global, bytes: &[u8]) -> anyhow::Result<String> {
                 "{kind:?}, pass {pass}, worker {worker}, side {side}, number {number}, epoch {epoch}, bit {bit}, {words:?}"
             )?)
         }
-        Err(error) => Ok(format!(in alloc; "{error:?}")?),
+        Err(error) => Ok(format!(in alloc; "{error:?}: {error}")?),
     }
 }
 

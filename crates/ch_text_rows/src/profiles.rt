@@ -67,7 +67,7 @@ pub(crate) fn settings(alloc: Global, text: &[u8]) -> anyhow::Result<String> {
     }
     match read_profile(text) {
         Ok(profile) => changed(alloc, &profile),
-        Err(error) => Ok(format!(in alloc; "{error:?}")?),
+        Err(error) => Ok(format!(in alloc; "{error}")?),
     }
 }
 
